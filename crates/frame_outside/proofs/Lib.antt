@@ -1,0 +1,4 @@
+mod Files
+pub mod Slots
+mod Untold
+pub mod Reading

@@ -1,0 +1,7 @@
+-- The map after the insert, read by bytes, is the map before but for that name.
+use Rattle.frame_outside.proofs.Files.{seen_after_insert}
+use Rattle.frame_outside.proofs.mem_shelf.MemShelf.with_file.Goals as goal
+
+pub returns-clause-ok : goal.returns-clause-ok
+returns-clause-ok c =
+    seen_after_insert _ c.args.self.now.files c.insert.new.self _ _ _ _ c.in_ok-insert.ensures.updates c.in_ok-key.ensures.ok c.in_ok-held.ensures.items

@@ -1,0 +1,7 @@
+pub mod Counts
+pub mod Shelf
+pub mod Sink
+pub mod Calls
+pub mod MemShelf
+pub mod MemSink
+pub mod SlotReader
