@@ -1,5 +1,5 @@
 -- A header is read as a byte order exactly where it is a header in that order.
-use Rattle.std.proofs.Common.{◌≡◌, ℕ, zero, suc, ◌+◌, ◌<◌, ◌↔◌, Bool, true, false, not, List, [], ◌∷◌, length, drop, get_or, slice_range, Option, Some, None, Result, Ok, Err, All, find, IsTrue, cond, refl, sym, ap, ◌∙◌, arith, eqb-true, subst, lit<, ◌≤◌}
+use Rattle.std.proofs.Common.{◌≡◌, ℕ, zero, suc, ◌↔◌, Bool, true, false, not, List, [], ◌∷◌, length, drop, slice_range, Option, Some, None, Result, Ok, All, find, IsTrue, cond, refl, sym, ap, ◌∙◌, arith, eqb-true, subst, lit<, ◌≤◌}
 use Rattle.std.proofs.lemmas.Bool.{cond_both}
 use Rattle.std.proofs.lemmas.List.{length-take-le, length-drop}
 use Rattle.scalar_types.specs.declared.Order.{Order}

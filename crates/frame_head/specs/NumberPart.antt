@@ -4,4 +4,4 @@ use Rattle.frame_head.specs.declared.header.NumberPart.{NumberPart}
 use Rattle.frame_head.specs.Header.{Part, Number}
 
 abbrev pub part_of : NumberPart → Part
-part_of part = Number part.at (size_of part.width) part.value
+part_of part = Number part.0 (size_of part.1) part.2

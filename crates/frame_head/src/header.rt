@@ -17,56 +17,20 @@ pub const HEADER_SIZE: usize = 40;
 const SIGNATURE: [u8; 5] = *b"IGWD\0";
 
 /// The number that tells the byte order.
-const ORDER_PROBE: NumberPart = NumberPart {
-    at: 12,
-    width: Width::Two,
-    value: 0x1234,
-};
+const ORDER_PROBE: NumberPart = NumberPart(12, Width::Two, 0x1234);
 
 /// The parts after the signature that are judged, in order: the version, the sizes of INT_2, INT_4,
 /// INT_8, REAL_4 and REAL_8, and a number of each of the first three.
 const NUMBERS: [NumberPart; 9] = [
-    NumberPart {
-        at: 5,
-        width: Width::One,
-        value: 8,
-    },
-    NumberPart {
-        at: 7,
-        width: Width::One,
-        value: 2,
-    },
-    NumberPart {
-        at: 8,
-        width: Width::One,
-        value: 4,
-    },
-    NumberPart {
-        at: 9,
-        width: Width::One,
-        value: 8,
-    },
-    NumberPart {
-        at: 10,
-        width: Width::One,
-        value: 4,
-    },
-    NumberPart {
-        at: 11,
-        width: Width::One,
-        value: 8,
-    },
+    NumberPart(5, Width::One, 8),
+    NumberPart(7, Width::One, 2),
+    NumberPart(8, Width::One, 4),
+    NumberPart(9, Width::One, 8),
+    NumberPart(10, Width::One, 4),
+    NumberPart(11, Width::One, 8),
     ORDER_PROBE,
-    NumberPart {
-        at: 14,
-        width: Width::Four,
-        value: 0x1234_5678,
-    },
-    NumberPart {
-        at: 18,
-        width: Width::Eight,
-        value: 0x0123_4567_89AB_CDEF,
-    },
+    NumberPart(14, Width::Four, 0x1234_5678),
+    NumberPart(18, Width::Eight, 0x0123_4567_89AB_CDEF),
 ];
 
 /// The file header is not one of format version 8.
@@ -77,21 +41,18 @@ pub struct HeadFault {
     pub at: u32,
 }
 
-/// A part of the header that holds a number.
+/// A part of the header that holds a number: its place, its width and the number.
 #[derive(Clone, Copy)]
-struct NumberPart {
-    at: u8,
-    width: Width,
-    value: u64,
-}
+struct NumberPart(u8, Width, u64);
 
 impl NumberPart {
     /// Whether the number stands at its place.
     fn is_right(&self, order: Order, bytes: &[u8; HEADER_SIZE]) -> bool
-        requires { self.now.at + size_of self.now.width ≤ 40 }
+        requires { self.now.0 + size_of self.now.1 ≤ 40 }
         ensures { result ≡ is_right order bytes.now (part_of self.now) }
     {
-        read_num(order, self.width, &bytes[usize::from(self.at)..]) == self.value
+        let NumberPart(at, width, value) = *self;
+        read_num(order, width, &bytes[usize::from(at)..]) == value
     }
 }
 
@@ -114,7 +75,7 @@ pub fn read_header(bytes: &[u8; HEADER_SIZE]) -> Result<Order, HeadFault>
         Order::Little
     };
     match first_wrong(&NUMBERS, order, bytes) {
-        Some(part) => Err(HeadFault { at: part.at.into() }),
+        Some(&NumberPart(at, ..)) => Err(HeadFault { at: at.into() }),
         None => Ok(order),
     }
 }
@@ -125,8 +86,9 @@ fn first_wrong<'a>(
     order: Order,
     bytes: &[u8; HEADER_SIZE],
 ) -> Option<&'a NumberPart>
-    requires { All (λ part. part.at + size_of part.width ≤ 40) parts.now }
-    ensures { option_copied result ≡ find (λ part. not (is_right order bytes.now (part_of part))) parts.now }
+    requires { All (λ part. part.0 + size_of part.1 ≤ 40) parts.now }
+    ensures { option_copied result
+        ≡ find (λ part. not (is_right order bytes.now (part_of part))) parts.now }
 {
     parts.iter().find(|part| !part.is_right(order, bytes))
 }

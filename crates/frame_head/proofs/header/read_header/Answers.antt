@@ -1,6 +1,5 @@
 -- `accepted` holds of whatever the header is read as, which the other clause says.
-use Rattle.std.proofs.Common.{rules, arith, ◌≡◌, Ok, Err}
-use Rattle.std.proofs.lemmas.Grind.{common_steps}
+use Rattle.std.proofs.Common.{rules, ◌≡◌, Ok, Err}
 use Rattle.frame_head.specs.Header.{header_of}
 use Rattle.frame_head.proofs.Accepted.{accepted_at}
 use Rattle.frame_head.proofs.header.read_header.Goals as goal
