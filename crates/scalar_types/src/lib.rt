@@ -1,0 +1,53 @@
+//! Unsigned whole numbers in either byte order, at the widths that a frame file has. A signed number
+//! or a real is read as the number of its bits.
+#![tactic(auto)]
+
+ghost use Rattle.std.specs.Prelude.{◌≡◌, ◌<◌, ◌≤◌, ◌^◌, length, take};
+ghost use Rattle.scalar_types.specs.Number.{number, size_of};
+
+use byteorder::{BigEndian, ByteOrder, LittleEndian};
+
+/// The order in which a number's bytes stand.
+#[derive(Clone, Copy, Debug, PartialEq, Eq)]
+pub enum Order {
+    /// The first byte has the greatest power of 256.
+    Big,
+    /// The first byte has the least power of 256.
+    Little,
+}
+
+/// How many bytes a number takes.
+#[derive(Clone, Copy, Debug, PartialEq, Eq)]
+pub enum Width {
+    One,
+    Two,
+    Four,
+    Eight,
+}
+
+impl Width {
+    /// The number of bytes.
+    pub const fn size(self) -> usize
+        ensures { result ≡ size_of self }
+    {
+        match self {
+            Width::One => 1,
+            Width::Two => 2,
+            Width::Four => 4,
+            Width::Eight => 8,
+        }
+    }
+}
+
+/// The number in the first bytes of `bytes`, which has at least as many as the width takes. The bytes
+/// after them are not looked at.
+pub fn read_num(order: Order, width: Width, bytes: &[u8]) -> u64
+    requires { size_of width ≤ length bytes.now }
+    ensures value { result ≡ number order (take (size_of width) bytes.now) }
+    ensures fits { result < 256 ^ size_of width }
+{
+    match order {
+        Order::Big => BigEndian::read_uint(bytes, width.size()),
+        Order::Little => LittleEndian::read_uint(bytes, width.size()),
+    }
+}
