@@ -6,7 +6,7 @@ use Rattle.scalar_types.specs.declared.Order.TheVariants.{Big, Little}
 use Rattle.scalar_types.specs.Number.{number}
 use Rattle.frame_head.specs.declared.header.HeadFault.{HeadFault}
 
--- a part of the header that is judged: these bytes at a place, or at a place, in so many bytes, this number
+-- a part of the header that is judged: these bytes at a place; or this number, at a place and in so many bytes
 pub data Part : Type 0 where
   Bytes : (place : ℕ) (bytes : List ℕ) → Part
   Number : (place size value : ℕ) → Part
@@ -22,9 +22,9 @@ parts =
     ∷ Number 9 1 8  -- of an INT_8
     ∷ Number 10 1 4  -- of a REAL_4
     ∷ Number 11 1 8  -- of a REAL_8
-    ∷ Number 12 2 0x1234
-    ∷ Number 14 4 0x12345678
-    ∷ Number 18 8 0x0123456789ABCDEF
+    ∷ Number 12 2 0x1234  -- a known INT_2, which tells the byte order
+    ∷ Number 14 4 0x12345678  -- a known INT_4
+    ∷ Number 18 8 0x0123456789ABCDEF  -- a known INT_8
     ∷ []
 
 -- the place where a part begins
