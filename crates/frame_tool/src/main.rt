@@ -2,6 +2,9 @@
 #![tactic(auto)]
 
 mod reason;
+mod verdict;
+
+ghost use Rattle.frame_tool.specs.Walk.{IsVerdict};
 
 fn main() {
     let _ = reason::Reason::CutHeader.name();
