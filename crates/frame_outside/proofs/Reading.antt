@@ -168,6 +168,11 @@ IsSource-advances old new before after n advances source =
 pub gone_none : (outside : Outside) (reader : Buffered) → IsSource outside.slots reader.slot → HasGone outside outside reader reader 0
 gone_none outside reader source = record { source = source; advances = advances_none outside reader }
 
+-- one call went on by n bytes
+pub gone_once : (old new : Outside) (before after : Buffered) (n : ℕ) → IsSource old.slots before.slot → Advances old new before after n → HasGone old new before after n
+gone_once old new before after n source advances =
+    record { source = IsSource-advances old new before after n advances source; advances = advances }
+
 -- a call went on by n bytes
 pub gone_more : (first middle last : Outside) (before between after : Buffered) (n m : ℕ) →
     HasGone first middle before between n → Advances middle last between after m → HasGone first last before after (n + m)

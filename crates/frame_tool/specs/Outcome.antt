@@ -1,0 +1,38 @@
+-- The answers of a run: the status of each, and the line that is printed last.
+use Rattle.std.specs.Prelude.{ℕ, List, [], ◌++◌, codes}
+use Rattle.std.specs.Fmt.{decimal}
+use Rattle.frame_tool.specs.declared.outcome.Outcome.{Outcome}
+use Rattle.frame_tool.specs.declared.outcome.Outcome.TheVariants.{Done, Same, Different, Fault, NoChannel, NoTable, TableLies, Clash, OutputLimit, FramesLimit, Usage, Device, NoMemory}
+use Rattle.frame_tool.specs.Reason.{number_of, name_of}
+
+abbrev pub status_of : Outcome → ℕ
+status_of Done = 0
+status_of Same = 0
+status_of (Different place) = 1
+status_of (Fault file at field reason) = 1
+status_of NoChannel = 1
+status_of NoTable = 1
+status_of (TableLies at) = 1
+status_of (Clash file class) = 1
+status_of OutputLimit = 1
+status_of FramesLimit = 1
+status_of Usage = 2
+status_of Device = 3
+status_of NoMemory = 4
+
+abbrev pub line_of : Outcome → List ℕ
+line_of Done = []
+line_of Same = codes "same\n"
+line_of (Different place) = codes "different at " ++ (decimal place ++ codes "\n")
+line_of (Fault file at field reason) =
+    codes "fault: file " ++ (decimal file ++ (codes " at " ++ (decimal at ++ (codes " field " ++ (decimal field
+    ++ (codes ": " ++ (decimal (number_of reason) ++ (codes " " ++ (name_of reason ++ codes "\n")))))))))
+line_of NoChannel = codes "no channel\n"
+line_of NoTable = codes "no table\n"
+line_of (TableLies at) = codes "table lies at " ++ (decimal at ++ codes "\n")
+line_of (Clash file class) = codes "clash: file " ++ (decimal file ++ (codes " class " ++ (decimal class ++ codes "\n")))
+line_of OutputLimit = codes "output limit\n"
+line_of FramesLimit = codes "frames limit\n"
+line_of Usage = codes "usage\n"
+line_of Device = []
+line_of NoMemory = []
