@@ -1,5 +1,5 @@
 -- What stands at a place, by what was read there.
-use Rattle.std.proofs.Common.{◌≡◌, ℕ, ◌+◌, ◌-◌, ◌<◌, ◌≤◌, min, nat_le, List, [], ◌∷◌, length, take, drop, Option, Some, None, option_map, refl, sym, ap, ◌∙◌, subst, arith, length-take, length-drop}
+use Rattle.std.proofs.Common.{◌≡◌, ℕ, ◌+◌, ◌-◌, ◌≤◌, min, List, [], ◌∷◌, length, take, drop, Some, option_map, refl, sym, ap, ◌∙◌, subst, arith, length-take, length-drop}
 use Rattle.std.proofs.lemmas.Bool.Decides.{nat_tests}
 use Rattle.std.proofs.lemmas.List.{take_all}
 use Rattle.scalar_types.specs.declared.Order.{Order}
@@ -9,7 +9,7 @@ use Rattle.frame_outside.specs.Shelf.{Outside, Told}
 use Rattle.frame_outside.specs.SlotReader.{Buffered, Advances, to_come}
 use Rattle.frame_tool.specs.declared.walk.Found.{Found}
 use Rattle.frame_tool.specs.declared.walk.Found.TheVariants.{End, Structure, Fault}
-use Rattle.frame_tool.specs.Walk.{record_limit, file_limit, MayStand}
+use Rattle.frame_tool.specs.Walk.{record_limit}
 use Rattle.frame_tool.specs.WalkSteps.{body_size_of, Judges, IsFound, Moves}
 
 -- a body is passed over whole where its structure is not too long

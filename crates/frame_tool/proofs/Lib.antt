@@ -1,2 +1,8 @@
+mod Faults
 mod Finding
+mod OneReply
+mod OneVerdict
+mod Parting
+mod Replies
+mod Structures
 mod Walking

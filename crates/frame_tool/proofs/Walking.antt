@@ -1,8 +1,6 @@
 -- How a walk goes on from structure to structure.
-use Rattle.std.proofs.Common.{◌≡◌, ℕ, ◌+◌, ◌<◌, ◌≤◌, List, [], ◌∷◌, ◌++◌, length, take, drop, Option, Some, Result, Ok, Err, option_map, inl, inr, refl, sym, ap, ◌∙◌, subst, arith, zero-add, length-take, length-drop, length-append, append-nil}
-use Rattle.std.proofs.Math.Seq.{take-add}
-use Rattle.std.proofs.lemmas.List.{take-append-drop, take-append-le, take_all}
-use Rattle.std.proofs.lemmas.List.Folds.{concat-append}
+use Rattle.std.proofs.Common.{◌≡◌, ℕ, ◌+◌, ◌<◌, ◌≤◌, List, [], ◌∷◌, ◌++◌, length, take, drop, Some, Ok, Err, option_map, inr, refl, sym, ap, ◌∙◌, subst, arith, length-take, length-drop, length-append, append-nil}
+use Rattle.std.proofs.lemmas.List.{take-append-le, take_all}
 use Rattle.std.specs.List.{concat}
 use Rattle.scalar_types.specs.declared.Order.{Order}
 use Rattle.frame_head.specs.declared.header.HeadFault.{HeadFault}
@@ -11,40 +9,28 @@ use Rattle.frame_outside.specs.Shelf.{Outside, Source, Told, Opens, beginning_of
 use Rattle.frame_outside.specs.SlotReader.{Buffered, Draws, Advances, to_come}
 use Rattle.frame_outside.proofs.Slots.{pass-given}
 use Rattle.frame_outside.proofs.Reading.{HasGone}
+use Rattle.frame_tool.proofs.Structures.{StandFrom-push, length-concat-take, rest-concat, take-concat-push}
 use Rattle.frame_tool.specs.declared.reason.Reason.{Reason}
 use Rattle.frame_tool.specs.declared.verdict.Verdict.{Verdict}
 use Rattle.frame_tool.specs.declared.verdict.Verdict.TheVariants.{Sound, Wrong}
 use Rattle.frame_tool.specs.declared.walk.Found.{Found}
 use Rattle.frame_tool.specs.declared.walk.Found.TheVariants.{End, Structure, Fault}
-use Rattle.frame_tool.specs.Walk.{file_limit, MayStand, StandFrom, IsFault, IsVerdict}
+use Rattle.frame_tool.specs.Walk.{MayStand, StandFrom, IsVerdict}
 use Rattle.frame_tool.specs.WalkSteps.{IsFound, Stood, FaultAfter, FindsOn, ReadsOneFile}
-
--- one more structure at the end
-StandFrom-push : (order : Order) (place : ℕ) (structures : List (List ℕ)) (last : List ℕ) →
-    StandFrom order place structures → MayStand order (place + length (concat structures)) last → StandFrom order place (structures ++ last ∷ [])
-StandFrom-push order place [] last stand may = (subst (λ at. MayStand order at last) (omega arith) may, tt)
-StandFrom-push order place (structure ∷ others) last stand may =
-    let e : place + length (concat (structure ∷ others)) ≡ (place + length structure) + length (concat others) = omega (arith, length-append structure (concat others)) in
-    (stand.0, StandFrom-push order (place + length structure) others last stand.1 (subst (λ at. MayStand order at last) e may))
 
 pub stood_none : (order : Order) (rest : List ℕ) → Stood order rest 0 0
 stood_none order rest = record { structures = []; within = omega arith; parts = refl; stand = tt; counted = refl }
-
-size_of_stood : (order : Order) (rest : List ℕ) (size count : ℕ) → (stood : Stood order rest size count) → length (concat stood.structures) ≡ size
-size_of_stood order rest size count stood = omega (arith, ap length stood.parts, length-take size rest, stood.within)
 
 -- one more structure was found
 pub stood_more : (order : Order) (rest : List ℕ) (size count place more : ℕ) → place ≡ 40 + size →
     Stood order rest size count → IsFound order place (drop size rest) (Structure more) → Stood order rest (size + more) (count + 1)
 stood_more order rest size count place more is_place stood found =
     let structure : List ℕ = take more (drop size rest) in
-    let at : place ≡ 40 + length (concat stood.structures) = omega (arith, is_place, size_of_stood order rest size count stood) in
+    let at : place ≡ 40 + length (concat stood.structures) = omega (arith, is_place, length-concat-take stood.structures rest size stood.within stood.parts) in
     record {
       structures = stood.structures ++ take more (drop size rest) ∷ [];
       within = omega (arith, stood.within, found.0, length-drop size rest);
-      parts = take-add size more rest ∙ ap (λ front. front ++ take more (drop size rest)) stood.parts
-          ∙ ap (λ back. concat stood.structures ++ back) (sym (append-nil (take more (drop size rest))))
-          ∙ sym (concat-append stood.structures (take more (drop size rest) ∷ []));
+      parts = take-concat-push stood.structures rest size more stood.parts;
       stand = StandFrom-push order 40 stood.structures (take more (drop size rest)) stood.stand (subst (λ p. MayStand order p (take more (drop size rest))) at found.1);
       counted = omega (arith, stood.counted, length-append stood.structures (take more (drop size rest) ∷ []));
     }
@@ -62,9 +48,9 @@ pub fault_after : (order : Order) (rest : List ℕ) (size count place : ℕ) (re
 fault_after order rest size count place reason is_place stood fault = record {
   structures = stood.structures;
   last = drop size rest;
-  parts = sym (take-append-drop size rest) ∙ ap (λ front. front ++ drop size rest) stood.parts;
+  parts = rest-concat stood.structures rest size stood.parts;
   stand = stood.stand;
-  place = omega (arith, is_place, size_of_stood order rest size count stood);
+  place = omega (arith, is_place, length-concat-take stood.structures rest size stood.within stood.parts);
   fault = fault;
 }
 

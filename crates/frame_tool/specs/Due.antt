@@ -1,9 +1,10 @@
 -- The reply that is due to words over files: the answer, and the text that is printed.
-use Rattle.std.specs.Prelude.{◌≡◌, ℕ, List, [], ◌++◌, codes, Option, Some, None, ◌⊎◌}
+use Rattle.std.specs.Prelude.{◌≡◌, ℕ, List, ◌++◌, codes, Option, Some, None, ◌⊎◌, take}
 use Rattle.std.specs.Fmt.{decimal}
 use Rattle.scalar_types.specs.declared.Order.{Order}
 use Rattle.scalar_types.specs.declared.Order.TheVariants.{Big, Little}
 use Rattle.frame_outside.specs.Shelf.{Files}
+use Rattle.frame_outside.specs.Sink.{Output, Appends}
 use Rattle.frame_tool.specs.declared.outcome.Outcome.{Outcome}
 use Rattle.frame_tool.specs.declared.outcome.Outcome.TheVariants.{Done, Fault, Usage, Device, NoMemory}
 use Rattle.frame_tool.specs.declared.verdict.Verdict.{Verdict}
@@ -45,6 +46,25 @@ IsCommandDue files (Some (WalkFile file)) reply = IsWalkDue (files file) reply
 abbrev pub IsDue : Files → List (List ℕ) → Reply → Type 0
 IsDue files words reply = IsCommandDue files (command_of words) reply
 
--- the two answers that may come in place of the one that is due
-abbrev pub IsRefusal : Outcome → Type 0
-IsRefusal outcome = (outcome ≡ Device) ⊎ (outcome ≡ NoMemory)
+-- an answer where this one is due; two may come in its place
+abbrev pub IsAnswer : Outcome → Outcome → Type 0
+IsAnswer outcome due = (outcome ≡ due) ⊎ ((outcome ≡ Device) ⊎ (outcome ≡ NoMemory))
+
+-- a front of the text was appended
+pub record AppendsFront (old new : Output) (text : List ℕ) : Type 0 where
+  pub count : ℕ
+  pub appends : Appends old new (take count text)
+
+-- the text was printed, after Device and NoMemory a front of it
+abbrev pub Prints : Outcome → List ℕ → Output → Output → Type 0
+Prints Device text old new = AppendsFront old new text
+Prints NoMemory text old new = AppendsFront old new text
+Prints _ text old new = Appends old new text
+
+-- words over files have a reply that is due
+abbrev pub EachRunHasADueReply : Type 0
+EachRunHasADueReply = (files : Files) (words : List (List ℕ)) → (reply : Reply) × IsDue files words reply
+
+-- and no two
+abbrev pub NoRunHasTwoDueReplies : Type 0
+NoRunHasTwoDueReplies = (files : Files) (words : List (List ℕ)) (first second : Reply) → IsDue files words first → IsDue files words second → first ≡ second

@@ -74,3 +74,11 @@ pub record IsSound (file : List ℕ) (order : Order) (count : ℕ) : Type 0 wher
 abbrev pub IsVerdict : List ℕ → Verdict → Type 0
 IsVerdict file (Sound order count) = IsSound file order count
 IsVerdict file (Wrong at reason) = IsHeaderFault file at reason ⊎ IsStructureFault file at reason
+
+-- each list of bytes has a verdict
+abbrev pub EachFileHasAVerdict : Type 0
+EachFileHasAVerdict = (file : List ℕ) → (verdict : Verdict) × IsVerdict file verdict
+
+-- and no two
+abbrev pub NoFileHasTwoVerdicts : Type 0
+NoFileHasTwoVerdicts = (file : List ℕ) (first second : Verdict) → IsVerdict file first → IsVerdict file second → first ≡ second

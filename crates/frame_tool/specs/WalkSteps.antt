@@ -1,5 +1,5 @@
 -- What the parts of a walk find and do.
-use Rattle.std.specs.Prelude.{◌≡◌, ℕ, ◌+◌, ◌-◌, ◌<◌, ◌≤◌, nat_le, if◌then◌else◌, List, [], ◌++◌, length, take, IsSome}
+use Rattle.std.specs.Prelude.{◌≡◌, ℕ, ◌+◌, ◌-◌, ◌≤◌, nat_le, if◌then◌else◌, List, [], ◌++◌, length, take, IsSome}
 use Rattle.std.specs.List.{concat}
 use Rattle.scalar_types.specs.declared.Order.{Order}
 use Rattle.frame_outside.specs.Shelf.{Outside, Told}

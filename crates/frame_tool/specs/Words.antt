@@ -1,5 +1,5 @@
 -- The words of the command line. A command that is not built yet is none.
-use Rattle.std.specs.Prelude.{◌==◌, List, [], ◌∷◌, ℕ, map, codes, Option, Some, None, if◌then◌else◌}
+use Rattle.std.specs.Prelude.{List, [], ◌∷◌, ℕ, map, codes, Option, Some, None, if◌then◌else◌}
 use Rattle.std.specs.Str.{bytes_eq}
 use Rattle.std.specs.String.{string_bytes}
 use Rattle.std.specs.declared.string.String.{String}

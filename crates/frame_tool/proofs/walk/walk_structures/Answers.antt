@@ -1,7 +1,6 @@
 -- Each step by the lemma of its name on a walk.
 use Rattle.std.proofs.Common.{◌≡◌, ◌+◌, ◌-◌, refl, subst, arith}
 use Rattle.frame_outside.proofs.Reading.{HasGone, gone_none, gone_more, gone_refused}
-use Rattle.frame_tool.specs.declared.walk.Found.TheVariants.{End, Structure, Fault}
 use Rattle.frame_tool.specs.WalkSteps.{Moves, Stood}
 use Rattle.frame_tool.proofs.Walking.{stood_none, stood_more, stood_all, fault_after, found_later}
 use Rattle.frame_tool.proofs.walk.walk_structures.Goals as goal
