@@ -10,6 +10,8 @@ mod dispatch;
 mod laws;
 mod outcome;
 mod reason;
+#[cfg(test)]
+mod tests;
 mod verdict;
 mod walk;
 

@@ -1,0 +1,192 @@
+//! Runs over a shelf and a sink in memory: worked files with the text and the status that each gives,
+//! and calls that fail in turn.
+
+use crate::dispatch::run;
+use frame_outside::{MemShelf, MemSink};
+use std::alloc::{AllocError, Global};
+use std::test::Fail;
+
+/// A file without a frame, 273 bytes: the header, five structures of the dictionary, and FrEndOfFile at 235.
+const LITTLE: &[u8] = b"\
+    IGWD\0\x08\0\x02\x04\x08\x04\x084\x12xV4\x12\xef\xcd\xab\x89gE#\x01\xdb\x0fI@\x18-DT\xfb!\x09@\0\0\
+    %\0\0\0\0\0\0\0\0\x01\0\0\0\0\x0c\0FrEndOfFile\0\x0b\0\x01\0\0\0\0\0\0\
+    (\0\0\0\0\0\0\0\0\x02\0\0\0\0\x08\0nFrames\0\x07\0INT_4U\0\x01\0\0\0\0\0\0\
+    '\0\0\0\0\0\0\0\0\x02\x01\0\0\0\x07\0nBytes\0\x07\0INT_8U\0\x01\0\0\0\0\0\0\
+    (\0\0\0\0\0\0\0\0\x02\x02\0\0\0\x08\0seekTOC\0\x07\0INT_8U\0\x01\0\0\0\0\0\0\
+    '\0\0\0\0\0\0\0\0\x02\x03\0\0\0\x07\0chkSum\0\x07\0INT_4U\0\x01\0\0\0\0\0\0\
+    &\0\0\0\0\0\0\0\0\x0b\0\0\0\0\0\0\0\0\x11\x01\0\0\0\0\0\0\0\0\0\0\0\0\0\0\0\0\0\0";
+
+/// The same in big-endian order.
+const BIG: &[u8] = b"\
+    IGWD\0\x08\0\x02\x04\x08\x04\x08\x124\x124Vx\x01#Eg\x89\xab\xcd\xef@I\x0f\xdb@\x09!\xfbTD-\x18\0\0\
+    \0\0\0\0\0\0\0%\0\x01\0\0\0\0\0\x0cFrEndOfFile\0\0\x0b\0\x01\0\0\0\0\0\
+    \0\0\0\0\0\0\0(\0\x02\0\0\0\0\0\x08nFrames\0\0\x07INT_4U\0\0\x01\0\0\0\0\0\
+    \0\0\0\0\0\0\0'\0\x02\0\0\0\x01\0\x07nBytes\0\0\x07INT_8U\0\0\x01\0\0\0\0\0\
+    \0\0\0\0\0\0\0(\0\x02\0\0\0\x02\0\x08seekTOC\0\0\x07INT_8U\0\0\x01\0\0\0\0\0\
+    \0\0\0\0\0\0\0'\0\x02\0\0\0\x03\0\x07chkSum\0\0\x07INT_4U\0\0\x01\0\0\0\0\0\
+    \0\0\0\0\0\0\0&\0\x0b\0\0\0\0\0\0\0\0\0\0\0\0\0\0\x01\x11\0\0\0\0\0\0\0\0\0\0\0\0";
+
+/// Which calls fail, and how many bytes one call gives.
+#[derive(Clone, Copy)]
+struct Outside {
+    most: usize,
+    shelf_call: u64,
+    sink_call: u64,
+}
+
+/// No call fails: the call of number 0 is never made.
+const WHOLE: Outside = Outside {
+    most: usize::MAX,
+    shelf_call: 0,
+    sink_call: 0,
+};
+
+/// The status and the text of a run over a shelf that holds one file, `f`.
+fn run_over(
+    alloc: Global,
+    outside: Outside,
+    file: &[u8],
+    words: &[&str],
+) -> Result<(u8, Vec<u8>), AllocError> {
+    let mut shelf = MemShelf::new(alloc);
+    shelf.with_file("f", file)?;
+    shelf.largest(outside.most.max(1));
+    shelf.fail_at(outside.shelf_call)?;
+    let mut out = MemSink::new(alloc);
+    out.fail_at(outside.sink_call)?;
+    let mut owned = Vec::new(alloc);
+    for word in words {
+        owned.push(String::from_str(alloc, word)?)?;
+    }
+    let outcome = run(alloc, owned.as_slice(), &mut shelf, &mut out);
+    Ok((outcome.status(), Vec::from_slice(alloc, out.bytes())?))
+}
+
+/// The first `size` bytes of a file, with other bytes at a place.
+fn changed(
+    alloc: Global,
+    base: &[u8],
+    size: usize,
+    at: usize,
+    bytes: &[u8],
+) -> Result<Vec<u8>, AllocError> {
+    let base = &base[..size.min(base.len())];
+    let end = at.saturating_add(bytes.len()).min(base.len());
+    let mut file = Vec::new(alloc);
+    file.extend_from_slice(&base[..at.min(base.len())])?;
+    file.extend_from_slice(bytes)?;
+    file.extend_from_slice(&base[end..])?;
+    Ok(file)
+}
+
+#[test]
+fn walks_worked_files(rt: HostRuntime) -> Result<(), Fail> {
+    let alloc = rt.alloc();
+    let none: &[u8] = &[];
+    let rows = [
+        (LITTLE, 273, 0, none, 0, "order: little\nstructures: 6\n"),
+        (BIG, 273, 0, none, 0, "order: big\nstructures: 6\n"),
+        (
+            LITTLE,
+            39,
+            0,
+            none,
+            1,
+            "fault: file 0 at 39 field 0: 1 CutHeader\n",
+        ),
+        (
+            LITTLE,
+            0,
+            0,
+            none,
+            1,
+            "fault: file 0 at 0 field 0: 1 CutHeader\n",
+        ),
+        (LITTLE, 40, 0, none, 0, "order: little\nstructures: 0\n"),
+        (
+            LITTLE,
+            273,
+            12,
+            b"\x12\x35",
+            1,
+            "fault: file 0 at 12 field 0: 2 BadHeader\n",
+        ),
+        (
+            LITTLE,
+            273,
+            5,
+            b"\x06",
+            1,
+            "fault: file 0 at 5 field 0: 2 BadHeader\n",
+        ),
+        (LITTLE, 273, 6, b"\x09", 0, "order: little\nstructures: 6\n"),
+        (
+            LITTLE,
+            273,
+            235,
+            b"\x0d",
+            1,
+            "fault: file 0 at 235 field 0: 4 LengthSmall\n",
+        ),
+        (
+            LITTLE,
+            273,
+            235,
+            &[0xff; 8],
+            1,
+            "fault: file 0 at 235 field 0: 5 RecordLimit\n",
+        ),
+        (
+            LITTLE,
+            273,
+            235,
+            b"\x10\x27",
+            1,
+            "fault: file 0 at 235 field 0: 3 CutRecord\n",
+        ),
+    ];
+    for (base, size, at, bytes, status, text) in rows {
+        let file = changed(alloc, base, size, at, bytes)?;
+        for most in [usize::MAX, 1] {
+            let outside = Outside { most, ..WHOLE };
+            let (got, printed) = run_over(alloc, outside, file.as_slice(), &["walk", "f"])?;
+            assert_eq!(rt; got, status, "{text}");
+            assert_eq!(rt; printed.as_slice(), text.as_bytes(), "{text}");
+        }
+    }
+    Ok(())
+}
+
+#[test]
+fn answers_words_and_failing_calls(rt: HostRuntime) -> Result<(), Fail> {
+    let alloc = rt.alloc();
+    let none: [&str; 0] = [];
+    for words in [none.as_slice(), &["wlak", "f"], &["walk", "f", "f"]] {
+        let (status, printed) = run_over(alloc, WHOLE, LITTLE, words)?;
+        assert_eq!(rt; status, 2);
+        assert_eq!(rt; printed.as_slice(), b"usage\n".as_slice());
+    }
+    let (status, printed) = run_over(alloc, WHOLE, LITTLE, &["walk", "g"])?;
+    assert_eq!(rt; status, 3);
+    assert!(rt; printed.is_empty());
+
+    // the slot is opened, 273 bytes are taken by seven, and once more at the end
+    for call in 1..=42 {
+        let outside = Outside {
+            most: 7,
+            shelf_call: call,
+            ..WHOLE
+        };
+        let (status, printed) = run_over(alloc, outside, LITTLE, &["walk", "f"])?;
+        assert_eq!(rt; status, if call < 42 { 3 } else { 0 }, "call {call}");
+        assert_eq!(rt; printed.is_empty(), call < 42, "call {call}");
+    }
+    let outside = Outside {
+        sink_call: 1,
+        ..WHOLE
+    };
+    let (status, printed) = run_over(alloc, outside, LITTLE, &["walk", "f"])?;
+    assert_eq!(rt; status, 3);
+    assert!(rt; printed.is_empty());
+    Ok(())
+}
