@@ -1,7 +1,7 @@
 -- What passing bytes of one slot does to all slots. Crates that take bytes in several calls cite these.
 use Rattle.std.proofs.Common.{◌≡◌, ℕ, zero, suc, ◌+◌, ◌<◌, List, [], ◌∷◌, ◌++◌, length, get_or, map, Option, Some, None, option_map, refl, ap, ◌∙◌, subst, add-zero, add_assoc, arith}
 use Rattle.std.proofs.Math.ListN.{set}
-use Rattle.frame_outside.specs.Shelf.{Reading, Slot, Source, Target, Told, IsSource, reading_at, passed, slot_passed, pass}
+use Rattle.frame_outside.specs.Shelf.{Reading, Slot, Source, Target, Told, IsSource, reading_at, passed, slot_passed, pass, released}
 
 slot_passed-zero : (slot : Slot) → slot_passed 0 slot ≡ slot
 slot_passed-zero (Source None) = refl
@@ -87,3 +87,9 @@ told_at seen P xs slot x lt same h reading told =
     let known : reading_at (map (λ y. Source (Some (seen y))) xs) slot ≡ Some (seen (get_or xs slot x)) = reading_at-map seen xs slot x lt in
     let e : seen x ≡ reading = cc in
     subst P e h
+
+-- source slots write no file
+pub released-sources : {X : Type 0} (seen : X → Reading) (name : List ℕ) (xs : List X) →
+    map (λ x. Source (Some (seen x))) xs ≡ released name (map (λ x. Source (Some (seen x))) xs)
+released-sources seen name [] = refl
+released-sources seen name (x ∷ xs) = ap (λ ss. Source (Some (seen x)) ∷ ss) (released-sources seen name xs)

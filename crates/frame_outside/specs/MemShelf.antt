@@ -33,11 +33,10 @@ fails_next shelf = next_fails shelf.calls
 abbrev pub most_given : MemShelf → ℕ
 most_given shelf = shelf.most
 
--- all but the files is the same
-pub record SameButFiles (old new : MemShelf) : Type 0 where
+-- all but the files and the slots is the same
+pub record SameButContent (old new : MemShelf) : Type 0 where
   pub faults : (outside_of new).faults ≡ (outside_of old).faults
   pub misses : (outside_of new).misses ≡ (outside_of old).misses
-  pub slots : (outside_of new).slots ≡ (outside_of old).slots
   pub failing : failing_calls new ≡ failing_calls old
   pub calls : calls_made new ≡ calls_made old
   pub most : most_given new ≡ most_given old

@@ -2,6 +2,7 @@
 -- the trait has one relation between what is known before and after, and a step by several calls has
 -- the same relation.
 use Rattle.std.specs.Prelude.{◌≡◌, ℕ, zero, suc, ◌+◌, ◌-◌, ◌<◌, ◌≤◌, Bool, true, false, IsTrue, List, [], ◌∷◌, ◌++◌, length, map, take, drop, slice_get, Option, Some, None, is_none, option_map, option_and_then, if◌then◌else◌}
+use Rattle.std.specs.Str.{bytes_eq}
 use Rattle.frame_outside.specs.Counts.{counted}
 
 -- the bytes held under each name; None where the name is not held
@@ -82,6 +83,19 @@ pub record Passes (old new : Outside) (slot n : ℕ) : Type 0 where
 pub record Gives (old : Outside) (slot n : ℕ) (into : List ℕ) : Type 0 where
   pub bytes : Told (reading_at old.slots slot) (λ reading. take n into ≡ take n (left_of reading))
   pub end : n ≡ 0 → 0 < length into → Told (reading_at old.slots slot) (λ reading. length reading.opened ≤ reading.at)
+
+-- what a target slot has written once the file of that name is no longer its own
+abbrev pub writing_released : List ℕ → Writing → Writing
+writing_released name writing =
+    record { written = writing.written; name = option_and_then (λ held. if bytes_eq name held then None else Some held) writing.name }
+
+abbrev pub slot_released : List ℕ → Slot → Slot
+slot_released name (Source reading) = Source reading
+slot_released name (Target writing) = Target (option_map (writing_released name) writing)
+
+-- the slots once the file of that name has come from elsewhere: none of them writes it
+abbrev pub released : List ℕ → List Slot → List Slot
+released name slots = map (slot_released name) slots
 
 -- a file at its beginning
 abbrev pub beginning : List ℕ → Reading

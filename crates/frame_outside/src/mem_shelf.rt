@@ -5,7 +5,7 @@ mod reader;
 ghost use Rattle.std.specs.Prelude.{◌≡◌, ◌≢◌, ◌⊎◌, ◌+◌, ◌-◌, ◌^◌, ◌<◌, ◌≤◌, ◌↔◌, ℕ, length, take, [], ◌∷◌, ◌++◌, List, IfOk, OnOk, OnErr, IsErr, IsErrOf, IsTrue, Some, None, option_copied, if◌then◌else◌};
 ghost use Rattle.std.specs.Str.{bytes_eq};
 ghost use Rattle.frame_outside.specs.Counts.{counted, Rose};
-ghost use Rattle.frame_outside.specs.Shelf.{Outside, Told, IsSource, Opens, Refuses, Passes, Gives};
+ghost use Rattle.frame_outside.specs.Shelf.{Outside, Told, IsSource, Opens, Refuses, Passes, Gives, released};
 
 use crate::calls::Calls;
 use crate::traits::{Failed, Shelf, ShelfError};
@@ -26,7 +26,7 @@ pub struct MemShelf {
 }
 
 impl MemShelf {
-    ghost use Rattle.frame_outside.specs.MemShelf.{outside_of, file_of, fails_next, failing_calls, calls_made, most_given, SameButFiles};
+    ghost use Rattle.frame_outside.specs.MemShelf.{outside_of, file_of, fails_next, failing_calls, calls_made, most_given, SameButContent};
 
     /// A shelf that holds no file, of which no call fails and each gives all that there is room for.
     pub fn new(alloc: Global) -> Self
@@ -49,10 +49,13 @@ impl MemShelf {
     }
 
     /// Holds these bytes under that name, in place of what was held, for slots given from now on.
+    /// No slot given before writes the file of that name any more.
     pub fn with_file(&mut self, name: &str, bytes: &[u8]) -> Result<(), AllocError>
         ensures ok { OnOk result ((q : List ℕ) → file_of self.new q ≡ (if bytes_eq name.now q then Some bytes.now else file_of self.old q)) }
+        ensures released { OnOk result ((outside_of self.new).slots ≡ released name.now (outside_of self.old).slots) }
         ensures err { OnErr result ((q : List ℕ) → file_of self.new q ≡ file_of self.old q) }
-        ensures others { SameButFiles self.old self.new }
+        ensures kept { OnErr result ((outside_of self.new).slots ≡ (outside_of self.old).slots) }
+        ensures others { SameButContent self.old self.new }
     {
         let key = String::from_str(self.alloc, name)?;
         let held = Vec::from_slice(self.alloc, bytes)?;
