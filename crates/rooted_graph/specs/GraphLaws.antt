@@ -35,8 +35,8 @@ abbrev pub EqualityIsTransitive : Type 0 → Type 0
 EqualityIsTransitive L = (f g h : Labelled L) → SameGraph f g → SameGraph g h → SameGraph f h
 
 -- a graph put into its breadth-first order is equal to it
-abbrev pub GraphsEqualTheirOrdered : Type 0 → Type 0
-GraphsEqualTheirOrdered L = (f : Labelled L) (s : List ℕ) → IsBreadthOrder f.graph s → SameGraph f (in_order f s)
+abbrev pub OrderedGraphsAreEqual : Type 0 → Type 0
+OrderedGraphsAreEqual L = (f : Labelled L) (s : List ℕ) → IsBreadthOrder f.graph s → SameGraph f (in_order f s)
 
 -- and its own order is 0, 1, 2 and so on
 abbrev pub OrderedGraphsCountUp : Type 0
