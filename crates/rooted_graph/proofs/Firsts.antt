@@ -1,11 +1,13 @@
 -- The first occurrences in a list: what they hold, that each stands there once, and that a longer list only adds to them.
-use Rattle.std.proofs.Common.{◌≡◌, ℕ, zero, suc, ◌<◌, Bool, true, false, ◌||◌, cond, List, [], ◌∷◌, ◌++◌, length, get_or, nat_eq, refl, sym, ap, ◌∙◌, subst, append_assoc, arith}
-use Rattle.std.specs.Prelude.{fold, Contains}
+use Rattle.std.proofs.Common.{◌≡◌, ℕ, zero, suc, ◌+◌, ◌<◌, Bool, true, false, ◌||◌, cond, List, [], ◌∷◌, ◌++◌, length, get_or, take, nat_eq, Some, refl, sym, ap, ◌∙◌, subst, append_assoc, arith}
+use Rattle.std.specs.Prelude.{fold, slice_get, Contains}
 use Rattle.std.specs.Cmp.{nat_eq_equiv}
 use Rattle.std.specs.List.{IsDistinct}
 use Rattle.std.proofs.lemmas.Bool.{eqb-true, eq-eqb, or_left, or_right}
-use Rattle.std.proofs.lemmas.List.{append-nil}
+use Rattle.std.proofs.lemmas.List.{append-nil, take_more}
 use Rattle.std.proofs.lemmas.List.Folds.{list_any-append}
+use Rattle.std.proofs.lemmas.List.Sums.{fold-append}
+use Rattle.std.proofs.lemmas.Option.{slice_get_within, get_or_from_slice_get}
 use Rattle.std.proofs.lemmas.Map.Keys.{IsDistinct-push}
 use Rattle.rooted_graph.specs.BreadthOrder.{has, added, first_occurrences}
 
@@ -85,3 +87,9 @@ has_at (x ∷ xs) (suc k) d h =
 
 pub has_from_Contains : (xs : List ℕ) (n : ℕ) → Contains xs n → has xs n ≡ true
 has_from_Contains xs n c = ap (has xs) (sym c.2) ∙ has_at xs c.0 n c.1
+
+-- one element of the list more
+pub fold_more : (s xs t u : List ℕ) (k n : ℕ) → slice_get xs k ≡ Some n → t ≡ fold added s (take k xs) → u ≡ added t n → u ≡ fold added s (take (k + 1) xs)
+fold_more s xs t u k n here before after =
+    let taken : take (k + 1) xs ≡ take k xs ++ n ∷ [] = take_more xs k 0 (slice_get_within xs k n here) ∙ ap (λ m. take k xs ++ m ∷ []) (get_or_from_slice_get xs k n 0 here) in
+    after ∙ ap (λ v. added v n) before ∙ sym (fold-append added s (take k xs) (n ∷ [])) ∙ ap (fold added s) (sym taken)

@@ -9,3 +9,4 @@ pub mod Matchings
 pub mod Ends
 pub mod Equality
 pub mod Ordered
+pub mod Tables

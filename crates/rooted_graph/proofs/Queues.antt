@@ -1,5 +1,5 @@
 -- A queue that holds what the roots and its first members lead to grows into the breadth-first order.
-use Rattle.std.proofs.Common.{◌≡◌, ℕ, zero, suc, ◌+◌, ◌<◌, ◌≤◌, ◌⊎◌, inl, inr, Bool, true, false, ◌||◌, Option, Some, None, List, [], ◌∷◌, ◌++◌, length, get_or, take, drop, nat_eq, sum, refl, sym, ap, ◌∙◌, subst, arith}
+use Rattle.std.proofs.Common.{◌≡◌, ℕ, zero, suc, ◌+◌, ◌<◌, ◌≤◌, ◌⊎◌, inl, inr, Bool, true, false, ◌||◌, Option, Some, None, List, [], ◌∷◌, ◌++◌, length, get_or, take, drop, nat_eq, sum, refl, sym, ap, ◌∙◌, subst, add-one, arith}
 use Rattle.std.specs.Prelude.{fold, slice_get, Contains}
 use Rattle.std.specs.List.{filter_map, flat_map, list_any, IsDistinct}
 use Rattle.std.proofs.lemmas.Bool.{cases_lt, or_left, or_right, or_cases, eqb-true}
@@ -73,6 +73,11 @@ queue_step g s i q h = record { first = first; earlier = earlier; within = longe
 
     earlier : (k : ℕ) → k < length after → Contains (roots_and_targets g (take k after)) (get_or after k 0)
     earlier k w = split k w (cases_lt k (suc i))
+
+-- the same, as a loop meets it
+pub queue_more : (g : Rooted) (s : List ℕ) (i n : ℕ) (t : List ℕ) → IsQueue g s i → i < length s → n ≡ get_or s i 0 → t ≡ fold added s (targets g n) → IsQueue g t (i + 1)
+queue_more g s i n t q h read e =
+    rw (add-one, e, read) (queue_step g s i q h)
 
 -- once each member has been taken, the queue is the order
 pub queue_end : (g : Rooted) (s : List ℕ) (i : ℕ) → IsQueue g s i → length s ≤ i → IsBreadthOrder g s

@@ -1,6 +1,6 @@
 -- The members of an order are the nodes in which some path ends.
 use Rattle.std.proofs.Common.{◌≡◌, ℕ, zero, suc, ◌+◌, ◌<◌, ◌⊎◌, inl, inr, Bool, true, false, ◌||◌, ◌↔◌, Option, Some, None, List, [], ◌∷◌, ◌++◌, length, get_or, take, drop, refl, sym, ap, ◌∙◌, subst, arith}
-use Rattle.std.specs.Prelude.{fold, slice_get, Contains, ⊤}
+use Rattle.std.specs.Prelude.{fold, slice_get, Contains, IsSome, ⊤}
 use Rattle.std.specs.List.{flat_map}
 use Rattle.std.proofs.lemmas.Bool.{or_left, or_right, or_cases}
 use Rattle.std.proofs.lemmas.List.{length-take, get_or-take, get_or_default}
@@ -80,7 +80,7 @@ reached_below g s o (suc i) k below h = go (or_cases (has g.roots x) (has (flat_
     there = sym (has-append g.roots (flat_map (targets g) (take k s)) x) ∙ has_from_Contains (roots_and_targets g (take k s)) x (o.earlier k h)
 
     from_member : ((j : ℕ) → j < i → j < length s → IsReached g (get_or s j 0)) → (j : ℕ) × (j < length (take k s)) × (has (targets g (get_or (take k s) j 0)) x ≡ true) → IsReached g x
-    from_member earlier found = 
+    from_member earlier found =
         let m : ℕ = get_or (take k s) found.0 0 in
         let link = link_to_target (links_of g m) x found.2 in
         let before : found.0 < k = let w : found.0 < length (take k s) = found.1 in omega (arith, length-take k s) in
@@ -103,3 +103,14 @@ reached_member g s o n h = placed (number_has s n h)
 pub order_holds_reached : (g : Rooted) (s : List ℕ) → IsBreadthOrder g s → (n : ℕ) → Contains s n ↔ IsReached g n
 order_holds_reached g s o n =
     (λ c. reached_member g s o n (has_from_Contains s n c), λ r. Contains_from_has s n (has_reached g s o n r))
+
+-- a node has a number exactly where it is reached
+pub numbered_where_reached : (g : Rooted) (s : List ℕ) → IsBreadthOrder g s → (n : ℕ) → IsSome (number_of s n) ↔ IsReached g n
+numbered_where_reached g s o n = (there (number_of s n) refl, back)
+  where
+    there : (k : Option ℕ) → number_of s n ≡ k → IsSome k → IsReached g n
+    there None e i = absurd (cc)
+    there (Some k) e i = let here = number_at s n k e in subst (IsReached g) here.1 (reached_below g s o (suc k) k (omega arith) here.0)
+
+    back : IsReached g n → IsSome (number_of s n)
+    back r = let found = number_has s n (has_reached g s o n r) in subst IsSome (sym found.1) refl
