@@ -7,6 +7,8 @@ pub mod laws;
 mod linked_nodes;
 mod numbering;
 mod queue;
+#[cfg(test)]
+mod tests;
 
 pub use linked_nodes::LinkedNodes;
 pub use numbering::Numbering;
