@@ -1,6 +1,6 @@
 -- Ends that are alike: alike to itself, both ways, and one after another. So equality of graphs is reflexive, symmetric and transitive.
-use Rattle.std.proofs.Common.{◌≡◌, ℕ, ◌↔◌, refl, sym, ap, ◌∙◌}
-use Rattle.rooted_graph.specs.Rooted.{Rooted, Path, End, Node, Null, Undefined, end_of}
+use Rattle.std.proofs.Common.{◌≡◌, ℕ, refl, sym, ◌∙◌}
+use Rattle.rooted_graph.specs.Rooted.{End, Node, Null, Undefined, end_of}
 use Rattle.rooted_graph.specs.SameGraph.{Labelled, AlikeEnds, EqualLabels, SameGraph}
 
 pub alike_weaker : (R Q : ℕ → ℕ → Type 0) → ((n m : ℕ) → R n m → Q n m) → (e e' : End) → AlikeEnds R e e' → AlikeEnds Q e e'

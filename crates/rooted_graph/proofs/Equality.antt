@@ -1,12 +1,12 @@
 -- Two graphs are equal exactly where their orders look the same, by a matching each way.
-use Rattle.std.proofs.Common.{◌≡◌, ℕ, zero, suc, ◌<◌, true, ◌↔◌, Option, Some, None, List, [], ◌∷◌, length, get_or, map, refl, sym, ap, ◌∙◌, subst, arith}
-use Rattle.std.specs.Prelude.{slice_get, ⊤}
+use Rattle.std.proofs.Common.{◌≡◌, ℕ, true, ◌↔◌, Option, Some, None, List, [], get_or, map, refl, sym, ap, ◌∙◌, subst}
+use Rattle.std.specs.Prelude.{slice_get}
 use Rattle.std.specs.Option.{option_map}
 use Rattle.std.specs.List.{AllZip}
 use Rattle.std.proofs.lemmas.List.{get_or-map}
 use Rattle.std.proofs.lemmas.List.Elements.{length_all_zip}
 use Rattle.std.proofs.lemmas.Option.{slice_get-map, same_Some}
-use Rattle.rooted_graph.specs.Rooted.{Rooted, Path, End, Node, Null, Undefined, links_of, end_of_root, end_of_link, follow, end_of, EndsIn, Meet}
+use Rattle.rooted_graph.specs.Rooted.{Rooted, Path, Node, links_of, end_of_root, end_of_link, follow, end_of, EndsIn, Meet}
 use Rattle.rooted_graph.specs.SameGraph.{Labelled, AlikeEnds, EqualLabels, SameGraph}
 use Rattle.rooted_graph.specs.BreadthOrder.{has, number_of, IsBreadthOrder}
 use Rattle.rooted_graph.specs.Looks.{numbered_links, LooksSame}

@@ -10,3 +10,4 @@ pub mod Ends
 pub mod Equality
 pub mod Ordered
 pub mod Tables
+pub mod Sharing

@@ -1,6 +1,6 @@
 -- A matching relates the nodes of two graphs one to one, so that roots match roots and the links of matching nodes match. Then paths end at matching nodes, and the orders match.
-use Rattle.std.proofs.Common.{◌≡◌, ℕ, zero, suc, ◌+◌, ◌<◌, ◌≤◌, Bool, true, false, ◌||◌, cond, Option, Some, None, List, [], ◌∷◌, ◌++◌, length, take, nat_eq, refl, sym, ap, ap₂, ◌∙◌, subst, arith}
-use Rattle.std.specs.Prelude.{fold, slice_get, ⊤}
+use Rattle.std.proofs.Common.{◌≡◌, ℕ, zero, suc, ◌+◌, Bool, true, false, ◌||◌, cond, Option, Some, None, List, [], ◌∷◌, ◌++◌, length, take, nat_eq, refl, sym, ap₂, subst, arith}
+use Rattle.std.specs.Prelude.{fold, slice_get}
 use Rattle.std.specs.Option.{option_map}
 use Rattle.std.specs.List.{AllZip, filter_map, flat_map}
 use Rattle.std.proofs.lemmas.Bool.{eqb-true, eq-eqb}

@@ -1,14 +1,13 @@
 -- A graph put into its order is equal to it, and its own order counts up.
-use Rattle.std.proofs.Common.{◌≡◌, ℕ, zero, suc, ◌+◌, ◌<◌, ◌≤◌, ◌⊎◌, inl, inr, true, Option, Some, None, List, [], ◌∷◌, length, get_or, take, map, refl, sym, ap, ◌∙◌, subst, arith}
-use Rattle.std.specs.Prelude.{slice_get, Contains, ⊤}
-use Rattle.std.specs.Option.{option_map, option_and_then}
-use Rattle.std.specs.List.{AllZip, filter_map, cons_option, range_with_len}
+use Rattle.std.proofs.Common.{◌≡◌, ℕ, suc, ◌<◌, ◌≤◌, ◌⊎◌, inl, inr, true, Option, Some, None, List, [], ◌∷◌, length, get_or, take, map, refl, sym, ap, ◌∙◌, subst, arith}
+use Rattle.std.specs.Prelude.{slice_get, Contains}
+use Rattle.std.specs.List.{AllZip, filter_map, cons_option}
 use Rattle.std.proofs.lemmas.Bool.{cases_lt}
 use Rattle.std.proofs.lemmas.List.{get_or-map}
 use Rattle.std.proofs.lemmas.List.FromFn.{length-range_with_len, get_or-range_with_len}
 use Rattle.std.proofs.lemmas.Option.{slice_get-get_or, slice_get_past, same_Some}
 use Rattle.rooted_graph.specs.Rooted.{Rooted, links_of}
-use Rattle.rooted_graph.specs.SameGraph.{Labelled, EqualLabels, SameGraph}
+use Rattle.rooted_graph.specs.SameGraph.{Labelled, SameGraph}
 use Rattle.rooted_graph.specs.BreadthOrder.{has, number_of, first_occurrences, roots_and_targets, IsBreadthOrder}
 use Rattle.rooted_graph.specs.InOrder.{renumbered, graph_in_order, in_order, counting_up}
 use Rattle.rooted_graph.proofs.Firsts.{has_at, has_from_Contains}

@@ -1,18 +1,18 @@
 -- A queue that holds what the roots and its first members lead to grows into the breadth-first order.
-use Rattle.std.proofs.Common.{◌≡◌, ℕ, zero, suc, ◌+◌, ◌<◌, ◌≤◌, ◌⊎◌, inl, inr, Bool, true, false, ◌||◌, Option, Some, None, List, [], ◌∷◌, ◌++◌, length, get_or, take, drop, nat_eq, sum, refl, sym, ap, ◌∙◌, subst, add-one, arith}
-use Rattle.std.specs.Prelude.{fold, slice_get, Contains}
-use Rattle.std.specs.List.{filter_map, flat_map, list_any, IsDistinct}
-use Rattle.std.proofs.lemmas.Bool.{cases_lt, or_left, or_right, or_cases, eqb-true}
-use Rattle.std.proofs.lemmas.List.{append-nil, take_all, take-append-le, take-append-drop, take-take, length-append, length-take, get_or_append_left, get_or-take, get_or_default}
+use Rattle.std.proofs.Common.{◌≡◌, ℕ, zero, suc, ◌+◌, ◌<◌, ◌≤◌, ◌⊎◌, inl, inr, true, ◌||◌, Option, Some, List, [], ◌∷◌, ◌++◌, length, get_or, take, drop, nat_eq, sum, sym, ap, ◌∙◌, subst, add-one, arith}
+use Rattle.std.specs.Prelude.{fold, Contains}
+use Rattle.std.specs.List.{filter_map, flat_map, IsDistinct}
+use Rattle.std.proofs.lemmas.Bool.{cases_lt, or_left, or_right, or_cases}
+use Rattle.std.proofs.lemmas.List.{append-nil, take_all, take-append-le, take-append-drop, take-take, length-append, get_or_append_left}
 use Rattle.std.proofs.lemmas.List.Sums.{get_or-le-sum_by}
 use Rattle.std.proofs.Math.Seq.{take-suc}
 use Rattle.std.proofs.lemmas.Map.Steps.{length-le_from_distinct_below}
-use Rattle.rooted_graph.specs.Rooted.{Rooted, links_of}
+use Rattle.rooted_graph.specs.Rooted.{Rooted}
 use Rattle.rooted_graph.specs.BreadthOrder.{has, added, first_occurrences, number_of, targets, roots_and_targets, IsBreadthOrder}
-use Rattle.rooted_graph.proofs.Firsts.{has-append, has-first_occurrences, fold_front, first_occurrences_distinct, has_at, has_from_Contains}
+use Rattle.rooted_graph.proofs.Firsts.{has-append, has-first_occurrences, fold_front, first_occurrences_distinct, has_at}
 use Rattle.rooted_graph.proofs.Places.{number_has, number_at, Contains_from_has}
 use Rattle.rooted_graph.proofs.Orders.{first_occurrences_grow}
-use Rattle.rooted_graph.proofs.Targets.{has_flat_map, has_more, member_of_flat_map}
+use Rattle.rooted_graph.proofs.Targets.{has_more, member_of_flat_map}
 
 -- The queue s, of which the first i members have been taken: it has the roots and the targets of those, each once, and each member comes after one that leads to it.
 pub record IsQueue (g : Rooted) (s : List ℕ) (i : ℕ) : Type 0 where

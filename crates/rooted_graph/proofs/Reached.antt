@@ -1,12 +1,12 @@
 -- The members of an order are the nodes in which some path ends.
-use Rattle.std.proofs.Common.{◌≡◌, ℕ, zero, suc, ◌+◌, ◌<◌, ◌⊎◌, inl, inr, Bool, true, false, ◌||◌, ◌↔◌, Option, Some, None, List, [], ◌∷◌, ◌++◌, length, get_or, take, drop, refl, sym, ap, ◌∙◌, subst, arith}
+use Rattle.std.proofs.Common.{◌≡◌, ℕ, zero, suc, ◌<◌, ◌⊎◌, inl, inr, true, ◌||◌, ◌↔◌, Option, Some, None, List, [], ◌∷◌, ◌++◌, length, get_or, take, refl, sym, ap, ◌∙◌, subst, arith}
 use Rattle.std.specs.Prelude.{fold, slice_get, Contains, IsSome, ⊤}
 use Rattle.std.specs.List.{flat_map}
 use Rattle.std.proofs.lemmas.Bool.{or_left, or_right, or_cases}
-use Rattle.std.proofs.lemmas.List.{length-take, get_or-take, get_or_default}
+use Rattle.std.proofs.lemmas.List.{length-take, get_or-take}
 use Rattle.std.proofs.lemmas.List.Sums.{fold-append}
-use Rattle.rooted_graph.specs.Rooted.{Rooted, Path, End, Node, Null, Undefined, links_of, end_of_root, end_of_link, follow, end_of, EndsIn, IsReached}
-use Rattle.rooted_graph.specs.BreadthOrder.{has, number_of, targets, first_occurrences, roots_and_targets, IsBreadthOrder}
+use Rattle.rooted_graph.specs.Rooted.{Rooted, Path, End, Node, Null, Undefined, links_of, end_of_root, end_of_link, follow, end_of, IsReached}
+use Rattle.rooted_graph.specs.BreadthOrder.{has, number_of, targets, roots_and_targets, IsBreadthOrder}
 use Rattle.rooted_graph.proofs.Firsts.{has-append, has-first_occurrences, has_from_Contains}
 use Rattle.rooted_graph.proofs.Places.{number_has, number_at, Contains_from_has}
 use Rattle.rooted_graph.proofs.Targets.{has_from_slice_get, slice_get_from_has, has_target, link_to_target, has_flat_map, member_of_flat_map}

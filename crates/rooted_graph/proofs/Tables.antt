@@ -1,13 +1,12 @@
 -- A table that has, by node, the number of the node in a list.
-use Rattle.std.proofs.Common.{◌≡◌, ℕ, zero, suc, ◌+◌, ◌<◌, ◌≤◌, ◌⊎◌, inl, inr, Bool, true, false, cond, Option, Some, None, List, [], ◌∷◌, ◌++◌, length, get_or, set, nat_eq, is_some, refl, sym, ap, ◌∙◌, subst, arith}
-use Rattle.std.specs.Prelude.{count_by, fold, slice_get}
-use Rattle.std.specs.List.{filter_map}
+use Rattle.std.proofs.Common.{◌≡◌, ℕ, ◌+◌, ◌<◌, ◌≤◌, ◌⊎◌, inl, inr, true, false, cond, Option, Some, None, List, [], ◌∷◌, ◌++◌, length, get_or, set, is_some, refl, sym, ap, ◌∙◌, subst, arith}
+use Rattle.std.specs.Prelude.{count_by}
 use Rattle.std.proofs.lemmas.Bool.{cases_eq, cases_lt, cond-true, cond-false, false_from_ne_true}
-use Rattle.std.proofs.lemmas.List.{get_or-set_same, get_or-set_other, get_or_past, length_push, get_or_default}
-use Rattle.std.proofs.lemmas.List.Sums.{count_by-le-length, sum_by-set}
+use Rattle.std.proofs.lemmas.List.{get_or-set_same, get_or-set_other, get_or_past}
+use Rattle.std.proofs.lemmas.List.Sums.{sum_by-set}
 use Rattle.rooted_graph.specs.BreadthOrder.{has, added, number_of}
 use Rattle.rooted_graph.proofs.Firsts.{has_at}
-use Rattle.rooted_graph.proofs.Places.{number_has, number_at, number_none, number_push_same, number_push_other}
+use Rattle.rooted_graph.proofs.Places.{number_has, number_at, number_push_same, number_push_other}
 
 -- by node, its number in the list
 pub record IsTable (numbers : List (Option ℕ)) (nodes : List ℕ) : Type 0 where

@@ -1,7 +1,7 @@
 -- The laws of rooted graphs, each carried by a function of `laws`.
-use Rattle.std.specs.Prelude.{◌≡◌, ℕ, List, ◌↔◌, Contains}
+use Rattle.std.specs.Prelude.{◌≡◌, ℕ, List, [], ◌∷◌, ◌↔◌, Contains}
 use Rattle.rooted_graph.specs.Rooted.{Rooted, IsReached}
-use Rattle.rooted_graph.specs.SameGraph.{Labelled, SameGraph}
+use Rattle.rooted_graph.specs.SameGraph.{Labelled, EndsAlike, SameGraph}
 use Rattle.rooted_graph.specs.BreadthOrder.{IsBreadthOrder}
 use Rattle.rooted_graph.specs.Looks.{LooksSame}
 use Rattle.rooted_graph.specs.InOrder.{graph_in_order, in_order, counting_up}
@@ -41,3 +41,15 @@ OrderedGraphsAreEqual L = (f : Labelled L) (s : List ℕ) → IsBreadthOrder f.g
 -- and its own order is 0, 1, 2 and so on
 abbrev pub OrderedGraphsCountUp : Type 0
 OrderedGraphsCountUp = (g : Rooted) (s : List ℕ) → IsBreadthOrder g s → IsBreadthOrder (graph_in_order g s) (counting_up s)
+
+-- a node that is a root twice
+abbrev pub one_node : Labelled ℕ
+one_node = record { graph = record { links = []; roots = 0 ∷ 0 ∷ [] }; label = λ _. 7; end_label = 7 }
+
+-- two nodes of one label that are the roots
+abbrev pub two_nodes : Labelled ℕ
+two_nodes = record { graph = record { links = []; roots = 0 ∷ 1 ∷ [] }; label = λ _. 7; end_label = 7 }
+
+-- labels along paths do not tell these apart, and yet they are not equal
+abbrev pub PathsAloneDoNotTell : Type 0
+PathsAloneDoNotTell = EndsAlike one_node two_nodes × ¬ (SameGraph one_node two_nodes)

@@ -1,5 +1,5 @@
 -- Rooted graphs, their paths, and where a path ends.
-use Rattle.std.specs.Prelude.{◌≡◌, ℕ, List, [], ◌∷◌, Option, Some, None, fold, slice_get, slice_index_or}
+use Rattle.std.specs.Prelude.{◌≡◌, ℕ, List, [], Option, Some, None, fold, slice_get, slice_index_or}
 
 -- A node is a number. Each of its links is null or leads to a node; a number past the list is a node without links.
 pub record Rooted : Type 0 where

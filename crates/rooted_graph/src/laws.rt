@@ -1,7 +1,7 @@
 //! The laws of rooted graphs. Each is the contract of a function that does nothing: a crate that
 //! calls the function has the law. `L` is the type of the labels.
 
-ghost use Rattle.rooted_graph.specs.GraphLaws.{EachGraphHasAnOrder, OrdersAreUnique, OrdersHoldTheReached, EqualWhereOrdersLookTheSame, EqualityIsReflexive, EqualityIsSymmetric, EqualityIsTransitive, OrderedGraphsAreEqual, OrderedGraphsCountUp};
+ghost use Rattle.rooted_graph.specs.GraphLaws.{EachGraphHasAnOrder, OrdersAreUnique, OrdersHoldTheReached, EqualWhereOrdersLookTheSame, EqualityIsReflexive, EqualityIsSymmetric, EqualityIsTransitive, OrderedGraphsAreEqual, OrderedGraphsCountUp, PathsAloneDoNotTell};
 
 /// Every graph has a breadth-first order.
 pub fn each_graph_has_an_order()
@@ -34,4 +34,10 @@ pub fn equality_is_an_equivalence<L>()
 pub fn ordered_graphs_are_equal<L>()
     ensures equal { OrderedGraphsAreEqual L }
     ensures counts_up { OrderedGraphsCountUp }
+{}
+
+/// That every path ends alike is not enough: a node that is a root twice is not equal to two roots
+/// of its label.
+pub fn paths_alone_do_not_tell()
+    ensures { PathsAloneDoNotTell }
 {}

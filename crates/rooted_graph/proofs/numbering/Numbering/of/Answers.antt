@@ -1,4 +1,4 @@
-use Rattle.std.proofs.Common.{◌≡◌, ◌+◌, ◌<◌, fold, sym, ap, ◌∙◌, subst, length, get_or, rules}
+use Rattle.std.proofs.Common.{◌≡◌, ◌<◌, fold, sym, ap, ◌∙◌, subst, length, get_or, rules}
 use Rattle.std.proofs.lemmas.List.{get_or_read}
 use Rattle.rooted_graph.specs.BreadthOrder.{added, first_occurrences}
 use Rattle.rooted_graph.proofs.Queues.{IsQueue, queue_start, queue_more, queue_end}

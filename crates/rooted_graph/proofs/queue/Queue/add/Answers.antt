@@ -1,6 +1,6 @@
-use Rattle.std.proofs.Common.{◌≡◌, ◌+◌, ◌<◌, ℕ, false, Option, Some, None, slice_set, length, is_some, sym, ◌∙◌, ap, arith, rules, get_or}
+use Rattle.std.proofs.Common.{◌≡◌, ◌+◌, false, None, length, is_some, sym, ◌∙◌, ap, rules, get_or}
 use Rattle.std.proofs.lemmas.List.{get_or_read, length-set, length_push}
-use Rattle.rooted_graph.proofs.Tables.{IsTable, added_new, added_old, numbered_new, counted_new}
+use Rattle.rooted_graph.proofs.Tables.{added_new, added_old, numbered_new, counted_new}
 use Rattle.rooted_graph.proofs.queue.Queue.add.Goals as goal
 
 pub invariant_of-self-then-is_none : goal.invariant_of-self-then-is_none

@@ -1,4 +1,4 @@
-use Rattle.std.proofs.Common.{sym, ◌∙◌}
+use Rattle.std.proofs.Common.{◌∙◌}
 use Rattle.rooted_graph.proofs.Firsts.{fold_more}
 use Rattle.rooted_graph.proofs.queue.Queue.add_roots.Goals as goal
 

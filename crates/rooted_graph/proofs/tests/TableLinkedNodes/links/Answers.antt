@@ -1,4 +1,4 @@
-use Rattle.std.proofs.Common.{◌≡◌, ℕ, zero, suc, ◌<◌, nat_lt, cond, Option, Some, None, List, [], ◌∷◌, length, map, get_or, refl}
+use Rattle.std.proofs.Common.{◌≡◌, ℕ, zero, suc, nat_lt, cond, Option, Some, None, List, [], ◌∷◌, length, map, get_or, refl}
 use Rattle.rooted_graph.proofs.tests.TableLinkedNodes.links.Goals as goal
 
 -- a row's links, taken before or after the row
