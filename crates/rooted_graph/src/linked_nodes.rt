@@ -7,7 +7,7 @@ ghost use Rattle.rooted_graph.specs.Rooted.{Rooted, links_of};
 /// Nodes, with links among them, and roots.
 ///
 /// A node is a number below `node_count`, so there are at most 4,294,967,295 of them. Each root is
-/// a node, and each link is null or leads to a node. No method takes memory.
+/// a node, and each link is null or leads to a node. No method fails or takes memory.
 pub trait LinkedNodes {
     /// Where a walk along the links of a node stands.
     type Walk: Drop;
