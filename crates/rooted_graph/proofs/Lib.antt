@@ -11,3 +11,4 @@ pub mod Equality
 pub mod Ordered
 pub mod Tables
 pub mod Sharing
+mod Examples

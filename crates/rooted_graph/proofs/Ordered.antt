@@ -11,8 +11,8 @@ use Rattle.rooted_graph.specs.SameGraph.{Labelled, SameGraph}
 use Rattle.rooted_graph.specs.BreadthOrder.{has, number_of, first_occurrences, roots_and_targets, IsBreadthOrder}
 use Rattle.rooted_graph.specs.InOrder.{renumbered, graph_in_order, in_order, counting_up}
 use Rattle.rooted_graph.proofs.Firsts.{has_at, has_from_Contains}
-use Rattle.rooted_graph.proofs.Places.{number_has, number_at, number_distinct, Contains_from_has}
-use Rattle.rooted_graph.proofs.Orders.{order_distinct}
+use Rattle.rooted_graph.proofs.Places.{number_has, number_at, Contains_from_has}
+use Rattle.rooted_graph.proofs.Orders.{number_of-member}
 use Rattle.rooted_graph.proofs.Reached.{has_root, has_linked}
 use Rattle.rooted_graph.proofs.Zips.{Both, zip_from_places, zip-take, functional_zip}
 use Rattle.rooted_graph.proofs.Matchings.{IsMatching, has_zip, roots_and_targets_zip, first_occurrences_zip}
@@ -66,7 +66,7 @@ module _ (g : Rooted) (s : List ℕ) (o : IsBreadthOrder g s) where
   counted k (inl h) =
       let w : k < length (counting_up s) = omega (arith, length-range_with_len 0 (length s)) in
       let place : get_or (counting_up s) k 0 ≡ k = get_or-range_with_len 0 (length s) k 0 h ∙ (omega arith) in
-      subst (λ a. Both (IsNumber s) a (slice_get (counting_up s) k)) (sym (slice_get-get_or s k 0 h)) (subst (Both (IsNumber s) (Some (get_or s k 0))) (sym (slice_get-get_or (counting_up s) k 0 w ∙ ap Some place)) (number_distinct s k (order_distinct g s o) h))
+      subst (λ a. Both (IsNumber s) a (slice_get (counting_up s) k)) (sym (slice_get-get_or s k 0 h)) (subst (Both (IsNumber s) (Some (get_or s k 0))) (sym (slice_get-get_or (counting_up s) k 0 w ∙ ap Some place)) (number_of-member g s o k h))
   counted k (inr h) =
       let w : length (counting_up s) ≤ k = omega (arith, length-range_with_len 0 (length s)) in
       subst (λ a. Both (IsNumber s) a (slice_get (counting_up s) k)) (sym (slice_get_past s k h)) (subst (Both (IsNumber s) None) (sym (slice_get_past (counting_up s) k w)) tt)
@@ -85,7 +85,7 @@ module _ (g : Rooted) (s : List ℕ) (o : IsBreadthOrder g s) where
       earlier k w =
           let h : k < length s = omega (arith, length-range_with_len 0 (length s)) in
           let place : get_or (counting_up s) k 0 ≡ k = get_or-range_with_len 0 (length s) k 0 h ∙ (omega arith) in
-          let number : number_of s (get_or s k 0) ≡ Some k = number_distinct s k (order_distinct g s o) h in
+          let number : number_of s (get_or s k 0) ≡ Some k = number_of-member g s o k h in
           let here = has_from_Contains (roots_and_targets g (take k s)) (get_or s k 0) (o.earlier k h) in
           let there = has_zip g (graph_in_order g s) (IsNumber s) number_matching (roots_and_targets g (take k s)) (roots_and_targets (graph_in_order g s) (take k (counting_up s))) (roots_and_targets_zip g (graph_in_order g s) (IsNumber s) number_matching (take k s) (take k (counting_up s)) (zip-take (IsNumber s) k s (counting_up s) counted_zip)) (get_or s k 0) k number in
           Contains_from_has (roots_and_targets (graph_in_order g s) (take k (counting_up s))) (get_or (counting_up s) k 0) (ap (has (roots_and_targets (graph_in_order g s) (take k (counting_up s)))) place ∙ sym there ∙ here)

@@ -20,8 +20,12 @@ pub first_occurrences_grow : (g : Rooted) (xs ys : List ℕ) → first_occurrenc
 first_occurrences_grow g xs ys =
     ap first_occurrences (roots_and_targets-append g xs ys) ∙ fold-append added [] (roots_and_targets g xs) (flat_map (targets g) ys)
 
-pub order_distinct : (g : Rooted) (s : List ℕ) → IsBreadthOrder g s → IsDistinct nat_eq s
+order_distinct : (g : Rooted) (s : List ℕ) → IsBreadthOrder g s → IsDistinct nat_eq s
 order_distinct g s o = subst (IsDistinct nat_eq) (sym o.first) (first_occurrences_distinct (roots_and_targets g s))
+
+-- a member's number is its place
+pub number_of-member : (g : Rooted) (s : List ℕ) → IsBreadthOrder g s → (k : ℕ) → k < length s → number_of s (get_or s k 0) ≡ Some k
+number_of-member g s o k h = number_distinct s k (order_distinct g s o) h
 
 -- what the first k members lead to stands at the front of the order
 order_front : (g : Rooted) (s : List ℕ) → IsBreadthOrder g s → (k : ℕ) → (rest : List ℕ) × (s ≡ first_occurrences (roots_and_targets g (take k s)) ++ rest)
@@ -38,7 +42,7 @@ next_within g s o k h rest split =
     let found = number_has front x there in
     let placed = number_at front x found.0 found.1 in
     let before : number_of s x ≡ Some found.0 = ap (λ t. number_of t x) split ∙ number_front front rest x found.0 found.1 in
-    let here : number_of s x ≡ Some k = number_distinct s k (order_distinct g s o) h in
+    let here : number_of s x ≡ Some k = number_of-member g s o k h in
     let same : found.0 ≡ k = cc in
     subst (λ j. j < length front) same placed.0
 

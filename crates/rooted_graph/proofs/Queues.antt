@@ -28,13 +28,18 @@ later_member g s i first k behind h =
     let split : take i s ++ drop i (take k s) ≡ take k s = ap (λ t. t ++ drop i (take k s)) (sym (take-take i k s behind)) ∙ take-append-drop i (take k s) in
     Contains_from_has (roots_and_targets g (take k s)) x (ap (λ t. has (roots_and_targets g t) x) (sym split) ∙ has_more g (take i s) (drop i (take k s)) x here)
 
-pub queue_start : (g : Rooted) → IsQueue g (first_occurrences g.roots) 0
+queue_start : (g : Rooted) → IsQueue g (first_occurrences g.roots) 0
 queue_start g =
     let first : first_occurrences g.roots ≡ first_occurrences (g.roots ++ []) = ap first_occurrences (sym (append-nil g.roots)) in
     record { first = first; earlier = λ k h. later_member g (first_occurrences g.roots) 0 first k (omega arith) h; within = omega arith }
 
+-- the same, as a loop begins
+pub queue_of_roots : (g : Rooted) (empty s : List ℕ) → empty ≡ [] → s ≡ fold added empty g.roots → IsQueue g s 0
+queue_of_roots g empty s nothing e =
+    subst (λ t. IsQueue g t 0) (sym (e ∙ ap (λ t. fold added t g.roots) nothing)) (queue_start g)
+
 -- the next member is taken, and its targets are added
-pub queue_step : (g : Rooted) (s : List ℕ) (i : ℕ) → IsQueue g s i → i < length s → IsQueue g (fold added s (targets g (get_or s i 0))) (suc i)
+queue_step : (g : Rooted) (s : List ℕ) (i : ℕ) → IsQueue g s i → i < length s → IsQueue g (fold added s (targets g (get_or s i 0))) (suc i)
 queue_step g s i q h = record { first = first; earlier = earlier; within = longer }
   where
     x : ℕ
@@ -74,7 +79,7 @@ queue_step g s i q h = record { first = first; earlier = earlier; within = longe
     earlier : (k : ℕ) → k < length after → Contains (roots_and_targets g (take k after)) (get_or after k 0)
     earlier k w = split k w (cases_lt k (suc i))
 
--- the same, as a loop meets it
+-- the same, as a loop goes on
 pub queue_more : (g : Rooted) (s : List ℕ) (i n : ℕ) (t : List ℕ) → IsQueue g s i → i < length s → n ≡ get_or s i 0 → t ≡ fold added s (targets g n) → IsQueue g t (i + 1)
 queue_more g s i n t q h read e =
     rw (add-one, e, read) (queue_step g s i q h)

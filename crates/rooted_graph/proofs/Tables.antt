@@ -1,8 +1,9 @@
 -- A table that has, by node, the number of the node in a list.
 use Rattle.std.proofs.Common.{◌≡◌, ℕ, ◌+◌, ◌<◌, ◌≤◌, ◌⊎◌, inl, inr, true, false, cond, Option, Some, None, List, [], ◌∷◌, ◌++◌, length, get_or, set, is_some, refl, sym, ap, ◌∙◌, subst, arith}
-use Rattle.std.specs.Prelude.{count_by}
+use Rattle.std.specs.Prelude.{All, count_by}
 use Rattle.std.proofs.lemmas.Bool.{cases_eq, cases_lt, cond-true, cond-false, false_from_ne_true}
 use Rattle.std.proofs.lemmas.List.{get_or-set_same, get_or-set_other, get_or_past}
+use Rattle.std.proofs.lemmas.List.Elements.{All-from_get_or}
 use Rattle.std.proofs.lemmas.List.Sums.{sum_by-set}
 use Rattle.rooted_graph.specs.BreadthOrder.{has, added, number_of}
 use Rattle.rooted_graph.proofs.Firsts.{has_at}
@@ -60,3 +61,6 @@ member_within numbers nodes table k h = go (cases_lt x (length numbers)) (number
     go (inr past) found =
         let clash : None ≡ Some found.0 = sym (get_or_past numbers x None past) ∙ table.numbered x ∙ found.1 in
         absurd (cc)
+
+pub members_within : (numbers : List (Option ℕ)) (nodes : List ℕ) → IsTable numbers nodes → All (λ n. n < length numbers) nodes
+members_within numbers nodes table = All-from_get_or (λ n. n < length numbers) nodes 0 (member_within numbers nodes table)

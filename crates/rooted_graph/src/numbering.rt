@@ -1,6 +1,6 @@
 //! The numbering of the nodes of a graph in breadth-first order.
 
-ghost use Rattle.std.specs.Prelude.{◌≡◌, ℕ, ◌↔◌, IfOk, IsSome};
+ghost use Rattle.std.specs.Prelude.{◌≡◌, ℕ, ◌<◌, ◌↔◌, All, IfOk, IsSome, length};
 ghost use Rattle.rooted_graph.specs.Rooted.{IsReached};
 ghost use Rattle.rooted_graph.specs.BreadthOrder.{IsBreadthOrder, number_of};
 
@@ -28,6 +28,7 @@ impl Numbering {
     /// nodes first, and only want of memory is an error.
     pub fn of<G: LinkedNodes>(alloc: Global, graph: &G) -> Result<Numbering, AllocError>
         ensures order { IfOk result (IsBreadthOrder (G.graph graph.now)) }
+        ensures in_range { IfOk result (All (λ node. node < length (G.graph graph.now).links)) }
         ensures reached { IfOk result (λ order. (n : ℕ) → IsSome (number_of order n) ↔ IsReached (G.graph graph.now) n) }
     {
         let mut queue = Queue::new(alloc, graph.node_count())?;

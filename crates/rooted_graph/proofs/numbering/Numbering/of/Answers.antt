@@ -1,17 +1,15 @@
-use Rattle.std.proofs.Common.{◌≡◌, ◌<◌, fold, sym, ap, ◌∙◌, subst, length, get_or, rules}
+use Rattle.std.proofs.Common.{◌≡◌, ◌<◌, ◌∙◌, subst, length, get_or, rules}
+use Rattle.std.specs.Prelude.{All}
 use Rattle.std.proofs.lemmas.List.{get_or_read}
-use Rattle.rooted_graph.specs.BreadthOrder.{added, first_occurrences}
-use Rattle.rooted_graph.proofs.Queues.{IsQueue, queue_start, queue_more, queue_end}
+use Rattle.rooted_graph.proofs.Queues.{queue_of_roots, queue_more, queue_end}
 use Rattle.rooted_graph.proofs.Reached.{numbered_where_reached}
-use Rattle.rooted_graph.proofs.Tables.{member_within}
+use Rattle.rooted_graph.proofs.Tables.{member_within, members_within}
 use Rattle.rooted_graph.proofs.numbering.Numbering.of.Goals as goal
 
 pub loop-place-init : goal.loop-place-init
 loop-place-init g c =
-    let roots = (g.G.LinkedNodes.graph c.args.graph.now).roots in
-    let start : c.add_roots.new.self.nodes.items ≡ first_occurrences roots = c.in_ok-add_roots.ensures.nodes ∙ ap (λ s. fold added s roots) c.in_ok-queue.ensures.empty in
     record {
-      queue = subst (λ s. IsQueue (g.G.LinkedNodes.graph c.args.graph.now) s 0) (sym start) (queue_start (g.G.LinkedNodes.graph c.args.graph.now));
+      queue = queue_of_roots (g.G.LinkedNodes.graph c.args.graph.now) c.in_ok-queue.queue.nodes.items c.add_roots.new.self.nodes.items c.in_ok-queue.ensures.empty c.in_ok-add_roots.ensures.nodes;
       size = c.add_roots.ensures.size ∙ c.in_ok-queue.ensures.size ∙ c.node_count.ensures;
     }
 
@@ -34,3 +32,7 @@ loop-place-preserved g c =
 pub returns-clause-reached : goal.returns-clause-reached
 returns-clause-reached g c =
     numbered_where_reached (g.G.LinkedNodes.graph c.args.graph.now) c.loop-place.queue.nodes.items (queue_end (g.G.LinkedNodes.graph c.args.graph.now) c.loop-place.queue.nodes.items c.loop-place.place c.loop-place.invariant.queue (search rules))
+
+pub returns-clause-in_range : goal.returns-clause-in_range
+returns-clause-in_range g c =
+    subst (λ count. All (λ node. node < count) c.loop-place.queue.nodes.items) c.loop-place.invariant.size (members_within c.loop-place.queue.numbers.items c.loop-place.queue.nodes.items (record { numbered = c.loop-place.queue.numbered }))
