@@ -3,7 +3,7 @@
 ghost use Rattle.std.specs.Prelude.{◌<◌};
 
 use crate::{Common, HEADER_SIZE, HeadFault, read_common, read_header};
-use scalar_types::Order;
+use scalar_types::{Order, Width, write_num};
 
 const LITTLE: [u8; HEADER_SIZE] = [
     b'I', b'G', b'W', b'D', 0, 8, 0, 2, 4, 8, 4, 8, 0x34, 0x12, 0x78, 0x56, 0x34, 0x12, 0xEF, 0xCD,
@@ -84,4 +84,13 @@ fn reads_the_first_bytes_of_a_structure(rt: HostRuntime) {
     };
     assert_eq!(rt; read_common(Order::Little, &bytes), little);
     assert_eq!(rt; read_common(Order::Big, &bytes), big);
+}
+
+#[test]
+fn writes_numbers_in_either_order(rt: HostRuntime) {
+    let mut bytes = [0xff; 6];
+    write_num(Order::Little, Width::Four, 0x0102_0304, &mut bytes);
+    assert_eq!(rt; bytes, [4, 3, 2, 1, 0xff, 0xff]);
+    write_num(Order::Big, Width::Two, 0x0506, &mut bytes);
+    assert_eq!(rt; bytes, [5, 6, 2, 1, 0xff, 0xff]);
 }

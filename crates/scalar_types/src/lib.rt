@@ -2,7 +2,7 @@
 //! or a real is read as the number of its bits.
 #![tactic(auto)]
 
-ghost use Rattle.std.specs.Prelude.{◌≡◌, ◌<◌, ◌≤◌, ◌^◌, length, take};
+ghost use Rattle.std.specs.Prelude.{◌≡◌, ◌<◌, ◌≤◌, ◌^◌, length, take, drop};
 ghost use Rattle.scalar_types.specs.Number.{number, size_of};
 
 use byteorder::{BigEndian, ByteOrder, LittleEndian};
@@ -49,5 +49,19 @@ pub fn read_num(order: Order, width: Width, bytes: &[u8]) -> u64
     match order {
         Order::Big => BigEndian::read_uint(bytes, width.size()),
         Order::Little => LittleEndian::read_uint(bytes, width.size()),
+    }
+}
+
+/// Writes a number into the first bytes of `into`, as many as the width takes. The bytes after them
+/// stay as they were.
+pub fn write_num(order: Order, width: Width, n: u64, into: &mut [u8])
+    requires fits { n < 256 ^ size_of width }
+    requires room { size_of width ≤ length into.old }
+    ensures value { number order (take (size_of width) into.new) ≡ n }
+    ensures rest { drop (size_of width) into.new ≡ drop (size_of width) into.old }
+{
+    match order {
+        Order::Big => BigEndian::write_uint(into, n, width.size()),
+        Order::Little => LittleEndian::write_uint(into, n, width.size()),
     }
 }
