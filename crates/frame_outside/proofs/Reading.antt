@@ -7,7 +7,7 @@ use Rattle.std.proofs.lemmas.Slice.{take-put_mid_below}
 use Rattle.std.specs.List.{slice_range}
 use borrow.Rule.Slice.PartMut.{put_mid}
 use Rattle.frame_outside.specs.Shelf.{Outside, Reading, Told, IsSource, Passes, Gives, left_of, passed, pass, reading_at}
-use Rattle.frame_outside.specs.SlotReader.{Buffered, to_come, Draws, Advances, most_ahead}
+use Rattle.frame_outside.specs.SlotReader.{Buffered, to_come, Draws, DrawsAtMost, Advances, most_ahead}
 use Rattle.frame_outside.proofs.Slots.{pass-zero, pass-pass, reading_at-pass, IsSource-pass}
 
 option_map-drop-zero : (told : Option (List ℕ)) → option_map (drop 0) told ≡ told
@@ -139,6 +139,14 @@ slice_range-later xs from to n within =
     let e : to - from ≡ n + (to - (from + n)) = omega arith in
     sym (ap (λ k. drop n (take k (drop from xs))) e ∙ drop-take n (to - (from + n)) (drop from xs) ∙ ap (take (to - (from + n))) (drop-drop n from xs))
 
+-- a reader whose bytes ahead begin n bytes later
+pub consumed : (slot from to n : ℕ) (buffer : List ℕ) (reader : Buffered) → from + n ≤ to →
+    record { slot = slot; ahead = slice_range buffer from to } ≡ reader →
+    record { slot = slot; ahead = slice_range buffer (from + n) to } ≡ record reader { ahead = drop n reader.ahead }
+consumed slot from to n buffer reader within is =
+    ap (λ (ahead : List ℕ). record { slot = slot; ahead = ahead }) (slice_range-later buffer from to n within)
+    ∙ ap (λ (r : Buffered). record r { ahead = drop n r.ahead }) is
+
 -- bytes that are ahead are the next ones
 ahead_is_next : (told : Option Reading) (ahead rest : List ℕ) (n : ℕ) → n ≤ length ahead →
     option_map (λ reading. ahead ++ left_of reading) told ≡ Some rest → take n ahead ≡ take n rest
@@ -204,6 +212,17 @@ gone_refused first middle last before between n gone draws =
       drawn = gone.advances.draws.drawn + draws.drawn;
       passes = passes_more first middle last before.slot gone.advances.draws.drawn draws.drawn gone.advances.draws.passes passes;
     }
+
+-- the shelf was asked for more, where nothing was ahead, and refused
+pub gone_at_most : (first middle last : Outside) (before between : Buffered) (n most : ℕ) →
+    HasGone first middle before between n → between.ahead ≡ [] → Passes middle last between.slot 0 → n ≤ most → DrawsAtMost first last before.slot most
+gone_at_most first middle last before between n most gone empty passes within = record {
+  draws = record {
+    drawn = gone.advances.draws.drawn + 0;
+    passes = passes_more first middle last before.slot gone.advances.draws.drawn 0 gone.advances.draws.passes (subst (λ slot. Passes middle last slot 0) gone.advances.slot passes);
+  };
+  limit = omega (arith, gone.advances.balance, ap length empty, within);
+}
 
 -- where nothing more is to come, all of what was to come was passed
 pub gone_all : (first middle last : Outside) (before between after : Buffered) (n : ℕ) →

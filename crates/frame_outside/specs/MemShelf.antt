@@ -11,9 +11,11 @@ use Rattle.frame_outside.specs.declared.mem_shelf.MemShelf.{MemShelf}
 abbrev pub file_of : MemShelf → List ℕ → Option (List ℕ)
 file_of shelf name = option_map (λ bytes. bytes.items) (get_by_text shelf.files name)
 
+-- a reader as a slot
 abbrev pub slot_of : Reader → Slot
 slot_of reader = Source (Some (record { opened = reader.opened.items; at = reader.at }))
 
+-- the shelf as callers know it
 abbrev pub outside_of : MemShelf → Outside
 outside_of shelf = record { faults = shelf.calls.faults; misses = shelf.misses; slots = map slot_of shelf.readers.items; files = Some (file_of shelf) }
 

@@ -35,12 +35,13 @@ pub record Outside : Type 0 where
 abbrev pub Told : {A : Type 0} → Option A → (A → Type 0) → Type 0
 Told {A} told P = (a : A) → told ≡ Some a → P a
 
--- the bytes that the slot is told to have been opened on, and how many of them it gave
+-- what is told of a slot: the bytes that it was opened on, and how many of them it gave
 abbrev pub reading_of : Option Slot → Option Reading
 reading_of (Some (Source reading)) = reading
 reading_of (Some (Target writing)) = None
 reading_of None = None
 
+-- the same of the slot of that number
 abbrev pub reading_at : List Slot → ℕ → Option Reading
 reading_at slots slot = reading_of (slice_get slots slot)
 
@@ -48,6 +49,7 @@ reading_at slots slot = reading_of (slice_get slots slot)
 abbrev pub left_of : Reading → List ℕ
 left_of reading = drop reading.at reading.opened
 
+-- whether there is a slot and `source` gave it
 abbrev pub is_source : Option Slot → Bool
 is_source (Some (Source reading)) = true
 is_source (Some (Target writing)) = false
@@ -61,6 +63,7 @@ IsSource slots slot = IsTrue (is_source (slice_get slots slot))
 abbrev pub passed : ℕ → Reading → Reading
 passed n reading = record { opened = reading.opened; at = reading.at + n }
 
+-- a slot that gave n bytes more
 abbrev pub slot_passed : ℕ → Slot → Slot
 slot_passed n (Source reading) = Source (option_map (passed n) reading)
 slot_passed n (Target writing) = Target writing
@@ -89,6 +92,7 @@ abbrev pub writing_released : List ℕ → Writing → Writing
 writing_released name writing =
     record { written = writing.written; name = option_and_then (λ held. if bytes_eq name held then None else Some held) writing.name }
 
+-- a slot once the file of that name has come from elsewhere
 abbrev pub slot_released : List ℕ → Slot → Slot
 slot_released name (Source reading) = Source reading
 slot_released name (Target writing) = Target (option_map (writing_released name) writing)

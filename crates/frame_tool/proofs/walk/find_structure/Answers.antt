@@ -11,7 +11,7 @@ skip-requires g c = (gone_once _ _ _ _ _ c.requires.source c.in_ok-read.ensures.
 
 pub returns-in_err-passed-clause-refused : goal.returns-in_err-passed-clause-refused
 returns-in_err-passed-clause-refused g c =
-    on_err _ (gone_refused _ _ _ _ _ _ (gone_once _ _ _ _ _ c.requires.source c.in_ok-read.ensures.advances) c.in_err-passed.ensures.refused)
+    on_err _ (gone_refused _ _ _ _ _ _ (gone_once _ _ _ _ _ c.requires.source c.in_ok-read.ensures.advances) c.in_err-passed.ensures.refused.draws)
 
 pub returns-clause-found : goal.returns-clause-found
 returns-clause-found g c = λ rest told.
