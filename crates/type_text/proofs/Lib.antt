@@ -1,1 +1,5 @@
 pub mod TokenLemmas
+pub mod NumeralLemmas
+pub mod GrammarLemmas
+pub mod ParsingLemmas
+pub mod LimitLemmas

@@ -3,7 +3,7 @@ use Rattle.std.proofs.Common.{◌≡◌, ◌≢◌, ℕ, zero, suc, ◌+◌, ◌
 use Rattle.std.proofs.lemmas.Bool.{false≢true}
 use Rattle.std.proofs.lemmas.Bool.Decides.{nat_tests}
 use Rattle.type_text.specs.Tokens.{Token, Word, Mark, tokens, extended, is_blank, is_word_byte, begins_word}
-use Rattle.type_text.specs.Steps.{first_word, after_mark, is_mark, begins_blank}
+use Rattle.type_text.specs.Steps.{first_word, after_mark, no_token, is_mark, begins_blank}
 
 -- a byte of a word is no blank
 blank-word_byte : (b : ℕ) → is_word_byte b ≡ true → is_blank b ≡ false
@@ -87,13 +87,17 @@ tokens-some b bs blank none = by (is_word_byte b) (begins_word bs) refl refl
     by false r e f = let made = tokens-mark b bs blank e in cc
 
 -- no token is left exactly where no byte is
-pub tokens-none : (bs : List ℕ) → begins_blank bs ≡ false → tokens bs ≡ [] → bs ≡ []
-tokens-none [] h e = refl
-tokens-none (b ∷ bs) h e = absurd (tokens-some b bs h e)
-
-pub tokens-nil : (bs : List ℕ) → bs ≡ [] → tokens bs ≡ []
+pub no_token-nil : (bs : List ℕ) → bs ≡ [] → no_token (tokens bs) ≡ true
 unfolding tokens
-tokens-nil bs e = rw e refl
+no_token-nil bs e = rw e refl
+
+no_token-cons : (ts : List Token) → (ts ≡ [] → ⊥) → no_token ts ≡ false
+no_token-cons [] h = absurd (h refl)
+no_token-cons (t ∷ ts) h = refl
+
+pub no_token-some : (bs : List ℕ) → begins_blank bs ≡ false → 0 < length bs → no_token (tokens bs) ≡ false
+no_token-some [] h long = absurd (omega arith)
+no_token-some (b ∷ bs) h long = no_token-cons (tokens (b ∷ bs)) (tokens-some b bs h)
 
 -- a mark in front, by the first byte
 mark-blank : (b m : ℕ) → is_mark m ≡ true → b ≡ m → is_blank b ≡ false
@@ -117,4 +121,4 @@ after_mark-nil m bs e = rw e refl
 pub ruleset skipping = (tokens-blank_more)
 pub ruleset words = (tokens-word, first_word-none)
 pub ruleset marks = (after_mark-same, after_mark-other, after_mark-nil)
-pub ruleset ends = (tokens-none, tokens-nil)
+pub ruleset ends = (no_token-nil, no_token-some)

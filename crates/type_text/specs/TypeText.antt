@@ -33,12 +33,12 @@ word_of Str = codes "STRING"
 word_of (Ptr to) = codes "PTR_STRUCT"
 
 -- the bases that a word names alone
-abbrev pub plain_bases : List Base
+unfoldable pub plain_bases : List Base
 plain_bases =
     Int1S ∷ Int1U ∷ Int2S ∷ Int2U ∷ Int4S ∷ Int4U ∷ Int8S ∷ Int8U ∷ Real4 ∷ Real8 ∷ Complex8 ∷ Complex16 ∷ Char ∷ CharU ∷ Str ∷ []
 
 -- the base that a word names
-abbrev pub base_of : List ℕ → Option Base
+unfoldable pub base_of : List ℕ → Option Base
 base_of w = find (λ base. bytes_eq (word_of base) w) plain_bases
 
 -- a word is a name where it begins with a letter or an underscore

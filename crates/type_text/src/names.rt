@@ -45,6 +45,14 @@ impl Name {
     }
 }
 
+impl From<Vec<u8>> for Name {
+    ghost from_gives = { λ bytes name. name ≡ bytes.items };
+
+    fn from(bytes: Vec<u8>) -> Name {
+        Name { bytes }
+    }
+}
+
 impl Clone for Name {
     ghost is_clone = { λ name copy. copy ≡ name };
 

@@ -1,8 +1,5 @@
 //! The types of elements and the links between structures.
-ghost use Rattle.std.specs.Prelude.{◌≡◌, ◌↔◌, IsTrue, IfOk};
-
 use crate::{ItemList, Name};
-use std::alloc::AllocError;
 
 /// A link to the structure of this class and instance. Class 0 is the null link, whatever the instance.
 #[derive(Clone, Copy, Debug, PartialEq, Eq)]
@@ -51,46 +48,4 @@ pub type DimList = ItemList<Dim>;
 pub struct ElementType {
     pub base: Base,
     pub dims: DimList,
-}
-
-impl Dim {
-    fn same(&self, other: &Dim) -> bool
-        ensures { IsTrue result ↔ (self.now ≡ other.now) }
-    {
-        self == other
-    }
-
-    fn copy(&self) -> Result<Dim, AllocError>
-        ensures { IfOk result (λ copy. copy ≡ self.now) }
-    {
-        self.clone()
-    }
-}
-
-impl Base {
-    fn same(&self, other: &Base) -> bool
-        ensures { IsTrue result ↔ (self.now ≡ other.now) }
-    {
-        self == other
-    }
-
-    fn copy(&self) -> Result<Base, AllocError>
-        ensures { IfOk result (λ copy. copy ≡ self.now) }
-    {
-        self.clone()
-    }
-}
-
-impl ElementType {
-    fn same(&self, other: &ElementType) -> bool
-        ensures { IsTrue result ↔ (self.now ≡ other.now) }
-    {
-        self == other
-    }
-
-    fn copy(&self) -> Result<ElementType, AllocError>
-        ensures { IfOk result (λ copy. copy ≡ self.now) }
-    {
-        self.clone()
-    }
 }
