@@ -3,3 +3,4 @@ pub mod NumeralLemmas
 pub mod GrammarLemmas
 pub mod ParsingLemmas
 pub mod LimitLemmas
+pub mod PrintedLemmas

@@ -46,11 +46,11 @@ least_bytes-tokens (b ∷ bs) =
       | false ↦ omega (arith, rest) ] ]
 
 -- a test of a value that was found
-cond-some : {A : Type 0} (b : Bool) (x y : A) → cond b (Some x) None ≡ Some y → (b ≡ true) × (x ≡ y)
+pub cond-some : {A : Type 0} (b : Bool) (x y : A) → cond b (Some x) None ≡ Some y → (b ≡ true) × (x ≡ y)
 cond-some true x y e = (refl, cc)
 cond-some false x y e = cc
 
-and-true : (a b : Bool) → (a && b) ≡ true → (a ≡ true) × (b ≡ true)
+pub and-true : (a b : Bool) → (a && b) ≡ true → (a ≡ true) × (b ≡ true)
 and-true true true e = (refl, refl)
 and-true true false e = cc
 and-true false b e = cc
@@ -93,7 +93,7 @@ length-dim w d e = by (is_name w) e
         let found = map-some Numeral (numeral_of w) d e in
         subst (λ d. length (dim_text d) ≤ max 1 (length w) + 2) found.2 (length-numeral w found.0 found.1)
 
-cond-then : {A : Type 0} (b : Bool) (o : Option A) (y : A) → cond b o None ≡ Some y → o ≡ Some y
+pub cond-then : {A : Type 0} (b : Bool) (o : Option A) (y : A) → cond b o None ≡ Some y → o ≡ Some y
 cond-then true o y e = e
 cond-then false o y e = cc
 
@@ -115,7 +115,7 @@ length-dims (Mark l ∷ Word w ∷ Mark r ∷ ts) ds e =
     subst (λ ds. length (flat_map dim_text ds) ≤ 1 + (max 1 (length w) + (1 + least_bytes ts))) dims.2 (omega (arith, first, rest, length-append (dim_text dim.0) (flat_map dim_text dims.0)))
 
 -- what is found in a list passes the test, and has what each item has
-find-some : {A : Type 0} (test : A → Bool) (P : A → Type 0) (xs : List A) (x : A) → AllByRecursion P xs → find test xs ≡ Some x → P x × (test x ≡ true)
+pub find-some : {A : Type 0} (test : A → Bool) (P : A → Type 0) (xs : List A) (x : A) → AllByRecursion P xs → find test xs ≡ Some x → P x × (test x ≡ true)
 find-some test P [] x all e = cc
 find-some test P (y ∷ ys) x all e = by (test y) refl e (find-some test P ys x all.1)
   where

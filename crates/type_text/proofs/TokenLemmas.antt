@@ -18,12 +18,12 @@ pub tokens-blank_more : (bs : List ℕ) (i : ℕ) → i < length bs → is_blank
 tokens-blank_more bs i h blank = rw (add-one, drop-cons bs i 0) (sym (tokens-blank (get_or bs i 0) (drop (suc i) bs) blank))
 
 -- a last byte of a word
-tokens-word_end : (b : ℕ) (bs : List ℕ) → is_word_byte b ≡ true → begins_word bs ≡ false → tokens (b ∷ bs) ≡ Word (b ∷ []) ∷ tokens bs
+pub tokens-word_end : (b : ℕ) (bs : List ℕ) → is_word_byte b ≡ true → begins_word bs ≡ false → tokens (b ∷ bs) ≡ Word (b ∷ []) ∷ tokens bs
 unfolding tokens
 tokens-word_end b bs h end = rw (blank-word_byte b h, h, end) refl
 
 -- a byte of a word that goes on
-tokens-word_more : (b : ℕ) (bs : List ℕ) → is_word_byte b ≡ true → begins_word bs ≡ true → tokens (b ∷ bs) ≡ extended b (tokens bs)
+pub tokens-word_more : (b : ℕ) (bs : List ℕ) → is_word_byte b ≡ true → begins_word bs ≡ true → tokens (b ∷ bs) ≡ extended b (tokens bs)
 unfolding tokens
 tokens-word_more b bs h more = rw (blank-word_byte b h, h, more) refl
 

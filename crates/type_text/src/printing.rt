@@ -7,16 +7,29 @@ use crate::{Base, Dim, ElementType, Name};
 use std::alloc::{AllocError, Global};
 
 /// The printed text of a type: no blank but the one before a star, and no leading zeros.
+///
+/// A text must read as this type, as one of each type that `parse_type` gives does.
+#[tactic(auto, using(crate::proofs::PrintedLemmas::reading))]
 pub fn print_type(alloc: Global, ty: &ElementType) -> Result<Name, AllocError>
     requires { IsType ty.now }
     ensures printed { IfOk result (λ text. text ≡ printed ty.now) }
+
+    // A printed text is a type, and reads as the type that it was printed from.
+    ensures read_again { IfOk result (λ text. type_of text ≡ Some ty.now) }
+{
+    Ok(Name::from(printed_bytes(alloc, ty)?))
+}
+
+#[tactic(auto, unfolding(crate::specs::TypeText::printed))]
+fn printed_bytes(alloc: Global, ty: &ElementType) -> Result<Vec<u8>, AllocError>
+    ensures { IfOk result (λ text. text.items ≡ printed ty.now) }
 {
     let mut text = Vec::new(alloc);
     push_base(&mut text, &ty.base)?;
     for dim in ty.dims.as_slice() {
         push_dim(alloc, &mut text, dim)?;
     }
-    Ok(Name::from(text))
+    Ok(text)
 }
 
 fn push_base(text: &mut Vec<u8>, base: &Base) -> Result<(), AllocError>
