@@ -25,8 +25,9 @@ dims_of-steps (Mark l ∷ Word w ∷ Word v ∷ ts) h =
 dims_of-steps (Mark l ∷ Word w ∷ Mark r ∷ ts) h =
     let dims = with_dim (dim_of w) (dims_of ts) in
     elim (eqb l 91) as (λ b. cond (b && eqb r 93) dims None ≡ dims_from (option_and_then (word_before 93) (cond b (Some (Word w ∷ Mark r ∷ ts)) None))) [
-      true ↦ elim (eqb r 93) as (λ b. cond b dims None ≡ dims_from (option_map (λ rest. (w, rest)) (cond b (Some ts) None))) [ true ↦ refl | false ↦ refl ]
-    | false ↦ refl ]
+      | true ↦ elim (eqb r 93) as (λ b. cond b dims None ≡ dims_from (option_map (λ rest. (w, rest)) (cond b (Some ts) None))) [ true ↦ refl | false ↦ refl ]
+      | false ↦ refl
+    ]
 
 -- a word in brackets takes tokens
 after_mark-shorter : (m : ℕ) (ts rest : List Token) → after_mark m ts ≡ Some rest → length rest < length ts
@@ -75,10 +76,12 @@ picked w ts = cond (no_token ts && is_name w) (Some w) None
 parenthesized-picked : (l : ℕ) (w : List ℕ) (s r : ℕ) (ts : List Token) → pointed_from (parenthesized_of (Mark l ∷ Word w ∷ Mark s ∷ Mark r ∷ ts)) ≡ cond ((eqb l 40 && eqb s 42) && eqb r 41) (picked w ts) None
 parenthesized-picked l w s r ts =
     elim (eqb l 40) as (λ b. pointed_from (option_and_then starred_of (cond b (Some (Word w ∷ Mark s ∷ Mark r ∷ ts)) None)) ≡ cond ((b && eqb s 42) && eqb r 41) (picked w ts) None) [
-      true ↦ elim (eqb s 42) as (λ b. pointed_from (option_and_then (closing 41) (option_map (λ rest. (w, rest)) (cond b (Some (Mark r ∷ ts)) None))) ≡ cond (b && eqb r 41) (picked w ts) None) [
-        true ↦ elim (eqb r 41) as (λ b. pointed_from (option_map (λ rest. (w, rest)) (cond b (Some ts) None)) ≡ cond b (picked w ts) None) [ true ↦ refl | false ↦ refl ]
-      | false ↦ refl ]
-    | false ↦ refl ]
+      | true ↦ elim (eqb s 42) as (λ b. pointed_from (option_and_then (closing 41) (option_map (λ rest. (w, rest)) (cond b (Some (Mark r ∷ ts)) None))) ≡ cond (b && eqb r 41) (picked w ts) None) [
+        | true ↦ elim (eqb r 41) as (λ b. pointed_from (option_map (λ rest. (w, rest)) (cond b (Some ts) None)) ≡ cond b (picked w ts) None) [ true ↦ refl | false ↦ refl ]
+        | false ↦ refl
+      ]
+      | false ↦ refl
+    ]
 
 same_picked : (b n : Bool) (w : List ℕ) → cond (b && n) (Some w) None ≡ cond b (cond n (Some w) None) None
 same_picked true n w = refl

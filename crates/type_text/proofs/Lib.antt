@@ -4,3 +4,4 @@ pub mod GrammarLemmas
 pub mod ParsingLemmas
 pub mod LimitLemmas
 pub mod PrintedLemmas
+pub mod Equality

@@ -38,12 +38,15 @@ least_bytes-tokens [] = omega arith
 least_bytes-tokens (b ∷ bs) =
     let rest = least_bytes-tokens bs in
     elim (is_blank b) as (λ c. least_bytes (cond c (tokens bs) (cond (is_word_byte b) (cond (begins_word bs) (extended b (tokens bs)) (Word (b ∷ []) ∷ tokens bs)) (Mark b ∷ tokens bs))) ≤ suc (length bs)) [
-      true ↦ omega (arith, rest)
-    | false ↦ elim (is_word_byte b) as (λ c. least_bytes (cond c (cond (begins_word bs) (extended b (tokens bs)) (Word (b ∷ []) ∷ tokens bs)) (Mark b ∷ tokens bs)) ≤ suc (length bs)) [
-        true ↦ elim (begins_word bs) as (λ c. least_bytes (cond c (extended b (tokens bs)) (Word (b ∷ []) ∷ tokens bs)) ≤ suc (length bs)) [
-          true ↦ omega (arith, rest, least_bytes-extended b (tokens bs))
-        | false ↦ omega (arith, rest) ]
-      | false ↦ omega (arith, rest) ] ]
+      | true ↦ omega (arith, rest)
+      | false ↦ elim (is_word_byte b) as (λ c. least_bytes (cond c (cond (begins_word bs) (extended b (tokens bs)) (Word (b ∷ []) ∷ tokens bs)) (Mark b ∷ tokens bs)) ≤ suc (length bs)) [
+        | true ↦ elim (begins_word bs) as (λ c. least_bytes (cond c (extended b (tokens bs)) (Word (b ∷ []) ∷ tokens bs)) ≤ suc (length bs)) [
+          | true ↦ omega (arith, rest, least_bytes-extended b (tokens bs))
+          | false ↦ omega (arith, rest)
+        ]
+        | false ↦ omega (arith, rest)
+      ]
+    ]
 
 -- a test of a value that was found
 pub cond-some : {A : Type 0} (b : Bool) (x y : A) → cond b (Some x) None ≡ Some y → (b ≡ true) × (x ≡ y)

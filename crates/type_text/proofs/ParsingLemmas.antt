@@ -62,4 +62,5 @@ after_dims-end front [] e = ap Some (append-nil front)
 after_dims-end front (t ∷ ts) e = cc
 
 pub ruleset pointers = (pointer-none, pointer-long, pointer-fits)
+
 pub ruleset dimensions = (after_dims-stop, after_dims-bad, after_dims-more, after_dims-end)

@@ -119,6 +119,9 @@ unfolding tokens
 after_mark-nil m bs e = rw e refl
 
 pub ruleset skipping = (tokens-blank_more)
+
 pub ruleset words = (tokens-word, first_word-none)
+
 pub ruleset marks = (after_mark-same, after_mark-other, after_mark-nil)
+
 pub ruleset ends = (no_token-nil, no_token-some)

@@ -17,3 +17,6 @@ pub use names::Name;
 pub use parsing::parse_type;
 pub use printing::print_type;
 pub use types::{Base, Dim, DimList, ElementType, Link};
+
+#[cfg(test)]
+mod tests;
