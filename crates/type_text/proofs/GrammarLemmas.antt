@@ -1,7 +1,6 @@
 -- The grammar of types, by what a scan finds in front.
-use Rattle.std.proofs.Common.{◌≡◌, ℕ, suc, ◌+◌, ◌<◌, ◌≤◌, Bool, true, false, cond, ◌&&◌, eqb, List, [], ◌∷◌, ◌++◌, length, Option, Some, None, option_and_then, refl, sym, ◌∙◌, ap, arith}
+use Rattle.std.proofs.Common.{◌≡◌, ℕ, suc, ◌<◌, Bool, true, false, cond, ◌&&◌, eqb, List, [], ◌∷◌, length, Option, Some, None, option_and_then, refl, sym, ◌∙◌, ap, arith}
 use Rattle.std.specs.Option.{option_map}
-use Rattle.type_text.specs.declared.types.Dim.{Dim}
 use Rattle.type_text.specs.Tokens.{Token, Word, Mark}
 use Rattle.type_text.specs.TypeText.{dims_of, dim_of, with_dim, pointed_of, is_name}
 use Rattle.type_text.specs.Steps.{first_word, after_mark, no_token, word_before, closing, starred_of, bracketed_of, parenthesized_of, dims_from, pointed_from}

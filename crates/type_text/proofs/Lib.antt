@@ -5,3 +5,4 @@ pub mod ParsingLemmas
 pub mod LimitLemmas
 pub mod PrintedLemmas
 pub mod Equality
+pub mod SpellingLemmas

@@ -1,13 +1,13 @@
 -- What the parser's steps make of the tokens that they find.
-use Rattle.std.proofs.Common.{◌≡◌, ℕ, suc, ◌+◌, ◌<◌, ◌≤◌, Bool, true, false, cond, nat_le, List, [], ◌∷◌, ◌++◌, length, Option, Some, None, option_and_then, refl, sym, ◌∙◌, ap, arith, append_assoc, append-nil, length-append, le-leb}
+use Rattle.std.proofs.Common.{◌≡◌, ℕ, ◌+◌, ◌<◌, ◌≤◌, true, false, cond, nat_le, List, [], ◌∷◌, ◌++◌, length, Option, Some, None, option_and_then, refl, sym, ◌∙◌, ap, arith, append_assoc, append-nil, length-append, le-leb}
 use Rattle.std.proofs.lemmas.Bool.Decides.{nat_tests}
 use Rattle.std.specs.Option.{option_map}
 use Rattle.type_text.specs.declared.types.Base.TheVariants.{Ptr}
 use Rattle.type_text.specs.declared.types.Dim.{Dim}
 use Rattle.type_text.specs.declared.types.ElementType.{ElementType}
-use Rattle.type_text.specs.Tokens.{Token, tokens}
-use Rattle.type_text.specs.TypeText.{type_of, type_of_tokens, within_limit, printed, dims_of, dim_of}
-use Rattle.type_text.specs.Steps.{first_word, no_token, bracketed_of, parenthesized_of, pointed_from, dims_from, pointer_type}
+use Rattle.type_text.specs.Tokens.{Token}
+use Rattle.type_text.specs.TypeText.{within_limit, printed, dims_of, dim_of}
+use Rattle.type_text.specs.Steps.{no_token, bracketed_of, parenthesized_of, pointed_from, dims_from, pointer_type}
 use Rattle.type_text.proofs.GrammarLemmas.{dims_of-steps, pointed_of-steps}
 
 -- a pointer to the name

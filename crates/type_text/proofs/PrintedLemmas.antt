@@ -1,5 +1,5 @@
 -- A printed text reads as the type that it was printed from.
-use Rattle.std.proofs.Common.{◌≡◌, ℕ, suc, zero, ◌+◌, ◌-◌, ◌^◌, ◌<◌, ◌≤◌, Bool, true, false, not, cond, ◌&&◌, ◌||◌, eqb, nat_le, nat_lt, List, [], ◌∷◌, ◌++◌, length, Option, Some, None, option_and_then, find, codes, refl, sym, ◌∙◌, ap, subst, arith, append_assoc, append-nil, le-leb}
+use Rattle.std.proofs.Common.{◌≡◌, ℕ, ◌<◌, ◌≤◌, Bool, true, false, not, cond, ◌&&◌, eqb, nat_le, nat_lt, List, [], ◌∷◌, ◌++◌, length, Some, None, codes, refl, sym, ◌∙◌, ap, subst, arith, append_assoc, append-nil, le-leb}
 use Rattle.std.specs.Bool.{⊤}
 use Rattle.std.proofs.lemmas.Bool.Decides.{nat_tests}
 use Rattle.std.proofs.lemmas.Bool.{leb-true, ltb-true}
@@ -12,13 +12,12 @@ use Rattle.std.specs.Str.{bytes_eq, all_ascii_digits}
 use Rattle.std.specs.Str.Parse.{digits_value, AllDigits}
 use Rattle.std.specs.Char.{is_ascii_digit, digit_value}
 use Rattle.type_text.specs.declared.types.Base.{Base}
-use Rattle.type_text.specs.declared.types.Base.TheVariants.{Ptr}
 use Rattle.type_text.specs.declared.types.Dim.{Dim}
 use Rattle.type_text.specs.declared.types.Dim.TheVariants.{Numeral, Named}
 use Rattle.type_text.specs.declared.types.ElementType.{ElementType}
 use Rattle.type_text.specs.Tokens.{Token, Word, Mark, tokens, extended, begins_word, is_blank, is_word_byte}
 use Rattle.type_text.specs.TypeText.{type_of, type_of_tokens, within_limit, printed, base_text, dim_text, base_of, plain_bases, word_of, dims_of, dim_of, with_dim, pointed_of, numeral_of, is_name, IsType}
-use Rattle.type_text.specs.Steps.{plain_type, pointer_type}
+use Rattle.type_text.specs.Steps.{plain_type}
 use Rattle.type_text.proofs.GrammarLemmas.{and_then-some, map-some}
 use Rattle.type_text.proofs.TokenLemmas.{tokens-word_end, tokens-word_more}
 use Rattle.type_text.proofs.LimitLemmas.{cond-some, cond-then, and-true, find-some}
@@ -30,7 +29,7 @@ AreWords [] = ⊤
 AreWords (Word w ∷ ts) = (list_all is_word_byte w ≡ true) × AreWords ts
 AreWords (Mark b ∷ ts) = AreWords ts
 
-and-both : (a b : Bool) → a ≡ true → b ≡ true → (a && b) ≡ true
+pub and-both : (a b : Bool) → a ≡ true → b ≡ true → (a && b) ≡ true
 and-both a b p q = rw (p, q) refl
 
 AreWords-extended : (b : ℕ) (ts : List Token) → is_word_byte b ≡ true → AreWords ts → AreWords (extended b ts)

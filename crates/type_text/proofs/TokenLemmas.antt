@@ -1,16 +1,15 @@
 -- The tokens at the front of a text.
-use Rattle.std.proofs.Common.{◌≡◌, ◌≢◌, ℕ, zero, suc, ◌+◌, ◌<◌, ◌≤◌, Bool, true, false, cond, ◌||◌, ◌==◌, eqb, not, List, [], ◌∷◌, length, get_or, take, drop, Option, Some, None, refl, sym, ◌∙◌, ap, arith, rules, drop-cons, add-one, eq-eqb}
-use Rattle.std.proofs.lemmas.Bool.{false≢true}
+use Rattle.std.proofs.Common.{◌≡◌, ℕ, zero, suc, ◌+◌, ◌<◌, ◌≤◌, Bool, true, false, cond, eqb, List, [], ◌∷◌, length, get_or, take, drop, Some, None, refl, sym, ◌∙◌, ap, arith, drop-cons, add-one, eq-eqb}
 use Rattle.std.proofs.lemmas.Bool.Decides.{nat_tests}
-use Rattle.type_text.specs.Tokens.{Token, Word, Mark, tokens, extended, is_blank, is_word_byte, begins_word}
-use Rattle.type_text.specs.Steps.{first_word, after_mark, no_token, is_mark, begins_blank}
+use Rattle.type_text.specs.Tokens.{Token, Word, Mark, tokens, extended, is_blank, is_word_byte, is_mark, begins_word}
+use Rattle.type_text.specs.Steps.{first_word, after_mark, no_token, begins_blank}
 
 -- a byte of a word is no blank
-blank-word_byte : (b : ℕ) → is_word_byte b ≡ true → is_blank b ≡ false
+pub blank-word_byte : (b : ℕ) → is_word_byte b ≡ true → is_blank b ≡ false
 blank-word_byte b h = grind (arith, nat_tests)
 
 -- a blank in front changes no token
-tokens-blank : (b : ℕ) (bs : List ℕ) → is_blank b ≡ true → tokens (b ∷ bs) ≡ tokens bs
+pub tokens-blank : (b : ℕ) (bs : List ℕ) → is_blank b ≡ true → tokens (b ∷ bs) ≡ tokens bs
 unfolding tokens
 tokens-blank b bs h = rw h refl
 
@@ -38,7 +37,7 @@ tokens-word (suc (suc n)) (b ∷ c ∷ bs) pos fits run end =
     ∙ ap (extended b) (tokens-word (suc n) (c ∷ bs) (omega arith) (omega arith) (λ k h. run (suc k) (omega arith)) end)
 
 -- a token of its own
-tokens-mark : (b : ℕ) (bs : List ℕ) → is_blank b ≡ false → is_word_byte b ≡ false → tokens (b ∷ bs) ≡ Mark b ∷ tokens bs
+pub tokens-mark : (b : ℕ) (bs : List ℕ) → is_blank b ≡ false → is_word_byte b ≡ false → tokens (b ∷ bs) ≡ Mark b ∷ tokens bs
 unfolding tokens
 tokens-mark b bs h w = rw (h, w) refl
 

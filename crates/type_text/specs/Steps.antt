@@ -1,7 +1,7 @@
 -- What a scan finds at the front of a text's tokens.
-use Rattle.std.specs.Prelude.{ℕ, Bool, true, false, ◌==◌, ◌||◌, not, ◌&&◌, if◌then◌else◌, List, [], ◌∷◌, Option, Some, None, option_and_then}
+use Rattle.std.specs.Prelude.{ℕ, Bool, true, false, ◌==◌, ◌&&◌, if◌then◌else◌, List, [], ◌∷◌, Option, Some, None, option_and_then}
 use Rattle.std.specs.Option.{option_map}
-use Rattle.type_text.specs.Tokens.{Token, Word, Mark, is_blank, is_word_byte}
+use Rattle.type_text.specs.Tokens.{Token, Word, Mark, is_blank}
 use Rattle.type_text.specs.TypeText.{pointed_of, dims_of, dim_of, with_dim, base_of, is_name}
 use Rattle.type_text.specs.declared.types.Dim.{Dim}
 use Rattle.type_text.specs.declared.types.ElementType.{ElementType}
@@ -21,10 +21,6 @@ after_mark m _ = None
 abbrev pub no_token : List Token → Bool
 no_token [] = true
 no_token (t ∷ ts) = false
-
--- a byte that is a token of its own
-abbrev pub is_mark : ℕ → Bool
-is_mark b = not (is_blank b || is_word_byte b)
 
 -- the bytes begin with a blank
 abbrev pub begins_blank : List ℕ → Bool

@@ -1,12 +1,12 @@
 -- The grammar of type texts, and the printed text of a type. The base words are the data types of the Common Data Frame Format (LIGO-T970130 v8), an array's dimensions follow in brackets as it writes them.
-use Rattle.std.specs.Prelude.{◌≡◌, ℕ, ◌<◌, Bool, true, false, not, ◌==◌, ◌&&◌, nat_le, if◌then◌else◌, List, [], ◌∷◌, ◌++◌, length, find, codes, Option, Some, None, option_and_then}
+use Rattle.std.specs.Prelude.{◌≡◌, ℕ, ◌≤◌, Bool, false, not, ◌==◌, ◌&&◌, nat_le, if◌then◌else◌, List, [], ◌∷◌, ◌++◌, length, find, codes, Option, Some, None, option_and_then}
 use Rattle.std.specs.Option.{option_map}
 use Rattle.std.specs.List.{flat_map}
 use Rattle.std.specs.Str.{bytes_eq, all_ascii_digits}
 use Rattle.std.specs.Str.Parse.{digits_value}
 use Rattle.std.specs.Char.{is_ascii_digit}
 use Rattle.std.specs.Fmt.{decimal}
-use Rattle.type_text.specs.Tokens.{Token, Word, Mark, tokens}
+use Rattle.type_text.specs.Tokens.{Token, Word, Mark, tokens, IsSpelling}
 use Rattle.type_text.specs.declared.types.Base.{Base}
 use Rattle.type_text.specs.declared.types.Base.TheVariants.{Int1S, Int1U, Int2S, Int2U, Int4S, Int4U, Int8S, Int8U, Real4, Real8, Complex8, Complex16, Char, CharU, Str, Ptr}
 use Rattle.type_text.specs.declared.types.Dim.{Dim}
@@ -97,6 +97,11 @@ within_limit found = option_and_then (λ ty. if nat_le (length (printed ty)) 409
 -- the type that a text of at most 4,096 bytes reads as
 unfoldable pub type_of : List ℕ → Option ElementType
 type_of text = if nat_le (length text) 4096 then within_limit (type_of_tokens (tokens text)) else None
+
+-- A text is this type where both it and the printed text have at most 4,096 bytes and it spells tokens of the type.
+abbrev pub IsTypeText : List ℕ → ElementType → Type 0
+IsTypeText text ty =
+    (length text ≤ 4096) × (length (printed ty) ≤ 4096) × ((ts : List Token) × IsSpelling ts text × (type_of_tokens ts ≡ Some ty))
 
 -- some text reads as this type
 abbrev pub IsType : ElementType → Type 0

@@ -1,9 +1,10 @@
 //! A type of a text, by the grammar in `specs/TypeText.antt`.
-ghost use Rattle.std.specs.Prelude.{◌≡◌, true, IfOk};
+ghost use Rattle.std.specs.Prelude.{◌≡◌, ◌↔◌, true, Some, IfOk};
 ghost use Rattle.std.specs.Option.{option_map};
-ghost use Rattle.type_text.specs.Tokens.{tokens};
-ghost use Rattle.type_text.specs.TypeText.{type_of, within_limit, dims_of, dim_of};
-ghost use Rattle.type_text.specs.Steps.{is_mark, word_before, bracketed_of, parenthesized_of, pointed_from, pointer_type};
+ghost use Rattle.type_text.specs.Tokens.{tokens, is_mark};
+ghost use Rattle.type_text.specs.TypeText.{type_of, IsTypeText, within_limit, dims_of, dim_of};
+ghost use Rattle.type_text.specs.Steps.{word_before, bracketed_of, parenthesized_of, pointed_from, pointer_type};
+ghost use Rattle.type_text.specs.declared.types.ElementType.{ElementType};
 
 use crate::base_words::{base_named, is_pointer_word};
 use crate::numerals::{is_name, numeral};
@@ -17,9 +18,16 @@ const TEXT_LIMIT: usize = 4096;
 /// The bytes of a printed pointer beside its name: `PTR_STRUCT(`, ` *` and `)`.
 const POINTER_MARKS: usize = 14;
 
-/// The type that the text reads as. None exactly where the text is no type.
+/// The type that the text reads as. None exactly where the text is no type by the grammar, so a text has at most one type.
 pub fn parse_type(alloc: Global, text: &[u8]) -> Result<Option<ElementType>, AllocError>
     ensures exact { IfOk result (λ found. found ≡ type_of text.now) }
+    ensures grammar { IfOk result (λ found. (ty : ElementType) → (found ≡ Some ty) ↔ IsTypeText text.now ty) }
+{
+    read(alloc, text)
+}
+
+fn read(alloc: Global, text: &[u8]) -> Result<Option<ElementType>, AllocError>
+    ensures { IfOk result (λ found. found ≡ type_of text.now) }
 {
     if text.len() > TEXT_LIMIT {
         return Ok(None);

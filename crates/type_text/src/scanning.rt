@@ -1,8 +1,8 @@
 //! The tokens at the front of a text, with blanks passed over.
 ghost use Rattle.std.specs.Prelude.{◌≡◌, ℕ, ◌<◌, ◌≤◌, true, false, length, drop, slice_index};
 ghost use Rattle.std.specs.Option.{option_map};
-ghost use Rattle.type_text.specs.Tokens.{tokens, is_blank, is_word_byte, begins_word};
-ghost use Rattle.type_text.specs.Steps.{first_word, after_mark, no_token, is_mark, begins_blank};
+ghost use Rattle.type_text.specs.Tokens.{tokens, is_blank, is_word_byte, is_mark, begins_word};
+ghost use Rattle.type_text.specs.Steps.{first_word, after_mark, no_token, begins_blank};
 
 /// The word at the front, and the text after it. None where another token or the end stands there.
 #[tactic(auto, using(crate::proofs::TokenLemmas::words))]

@@ -1,4 +1,4 @@
-use Rattle.std.proofs.Common.{sym, ◌∙◌, arith}
+use Rattle.std.proofs.Common.{sym, ◌∙◌}
 use Rattle.type_text.proofs.NumeralLemmas.{numeral_from-stop, numeral_from-end}
 use Rattle.type_text.proofs.numerals.numeral.Goals as goal
 

@@ -1,6 +1,6 @@
 use Rattle.std.proofs.Common.{ℕ, List, sym, ◌∙◌}
 use Rattle.type_text.specs.Tokens.{Token, tokens}
-use Rattle.type_text.proofs.ParsingLemmas.{after_dims-bad, after_dims-more, after_dims}
+use Rattle.type_text.proofs.ParsingLemmas.{after_dims-bad, after_dims-more}
 use Rattle.type_text.proofs.parsing.dims.Goals as goal
 
 pub returns-in_default-2 : goal.returns-in_default-2

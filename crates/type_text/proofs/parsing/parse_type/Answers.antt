@@ -1,24 +1,11 @@
-use Rattle.std.proofs.Common.{sym, ◌∙◌, rules}
-use Rattle.std.proofs.lemmas.Result.{IfOk-equal}
-use Rattle.type_text.specs.Tokens.{tokens}
-use Rattle.type_text.proofs.LimitLemmas.{type_of-long, type_of-none, type_of-pointer, type_of-other, type_of-base}
+use Rattle.std.proofs.Common.{◌≡◌, ◌↔◌, Some, sym, ◌∙◌}
+use Rattle.std.proofs.lemmas.Result.{IfOk-weaker}
+use Rattle.type_text.specs.declared.types.ElementType.{ElementType}
+use Rattle.type_text.specs.TypeText.{type_of, IsTypeText}
+use Rattle.type_text.proofs.SpellingLemmas.{type_of-grammar}
 use Rattle.type_text.proofs.parsing.parse_type.Goals as goal
 
-pub returns-then-text-gt-TEXT_LIMIT : goal.returns-then-text-gt-TEXT_LIMIT
-returns-then-text-gt-TEXT_LIMIT c = record { exact = sym (type_of-long c.args.text.now c.if-text-gt-TEXT_LIMIT.true) }
-
-pub returns-in_default : goal.returns-in_default
-returns-in_default c = record { exact = sym (type_of-none c.args.text.now c.if-text-gt-TEXT_LIMIT.false (sym c.in_default.ensures)) }
-
-pub returns-then-is_pointer_word : goal.returns-then-is_pointer_word
-returns-then-is_pointer_word c =
-    let same = type_of-pointer c.args.text.now c.in-Some.word.now (tokens c.in-Some.rest.now) c.if-text-gt-TEXT_LIMIT.false (sym c.in-Some.ensures) (sym c.if-is_pointer_word.ensures) in
-    record { exact = search (rules, IfOk-equal) }
-
-pub returns-in_default-base_named : goal.returns-in_default-base_named
-returns-in_default-base_named c =
-    record { exact = sym (type_of-other c.args.text.now c.in-Some.word.now (tokens c.in-Some.rest.now) c.if-text-gt-TEXT_LIMIT.false (sym c.in-Some.ensures) (sym c.if-is_pointer_word.ensures) (sym c.in_default-base_named.ensures)) }
-
-pub returns : goal.returns
-returns c =
-    record { exact = rw (type_of-base c.args.text.now c.in-Some.word.now (tokens c.in-Some.rest.now) c.in-Some-base_named.base c.in_ok-dims.dims c.if-text-gt-TEXT_LIMIT.false (sym c.in-Some.ensures) (sym c.if-is_pointer_word.ensures) (sym c.in-Some-base_named.ensures) (sym c.in_ok-dims.ensures)) (search rules) }
+pub returns-clause-grammar : goal.returns-clause-grammar
+returns-clause-grammar c =
+    let text = c.args.text.now in
+    IfOk-weaker c.read.result (λ found. found ≡ type_of text) (λ found. (ty : ElementType) → (found ≡ Some ty) ↔ IsTypeText text ty) (λ found same ty. (λ e. (type_of-grammar text ty).0 (sym same ∙ e), λ g. same ∙ (type_of-grammar text ty).1 g)) c.read.ensures

@@ -1,7 +1,6 @@
 use Rattle.std.proofs.Common.{◌<◌, length, refl, arith}
 use Rattle.std.proofs.lemmas.List.{take_rest}
 use Rattle.std.proofs.lemmas.Bool.Decides.{nat_tests}
-use Rattle.type_text.specs.Steps.{after_mark}
 use Rattle.type_text.proofs.TokenLemmas.{after_mark-same}
 use Rattle.type_text.proofs.scanning.mark_at.Goals as goal
 

@@ -1,6 +1,5 @@
 use Rattle.std.proofs.Common.{refl, arith}
 use Rattle.std.proofs.lemmas.List.{take_rest}
-use Rattle.type_text.specs.Steps.{first_word}
 use Rattle.type_text.proofs.TokenLemmas.{tokens-word}
 use Rattle.type_text.proofs.scanning.word_at.Goals as goal
 
