@@ -1,8 +1,9 @@
 -- Look-ups in a dictionary, and what an entry more or a copy leaves of them.
-use Rattle.std.proofs.Common.{◌≡◌, ℕ, ◌<◌, ◌≤◌, Bool, true, false, cond, eqb, List, [], ◌∷◌, ◌++◌, length, find, Option, Some, None, option_or, IsSomeAnd, refl, sym, ◌∙◌, ap, subst, arith, eq-eqb, append-nil}
+use Rattle.std.proofs.Common.{◌≡◌, ℕ, ◌<◌, ◌≤◌, Bool, true, false, cond, eqb, List, [], ◌∷◌, ◌++◌, length, find, Option, Some, None, IsSomeAnd, Result, Ok, Err, OnOk, OnErr, refl, sym, ◌∙◌, ap, subst, arith, eq-eqb, append-nil}
+use Rattle.std.proofs.lemmas.List.{map-append}
 use Rattle.std.proofs.lemmas.List.Folds.{find-append}
 use Rattle.std.proofs.lemmas.Slice.Eq.{bytes_eq-Decides}
-use Rattle.std.specs.Option.{option_map}
+use Rattle.std.specs.Option.{option_map, option_or}
 use Rattle.std.specs.List.{AllByRecursion}
 use Rattle.std.specs.Map.{values_of, lookup}
 use Rattle.std.specs.Str.{bytes_eq}
@@ -118,3 +119,33 @@ IsDictionary-new held e sound new read = record { entries = entries; names = nam
     names : (name : List ℕ) (class : ℕ) → class_named (held ++ e ∷ []) name ≡ Some class → IsSomeAnd (entry_of (held ++ e ∷ []) class) (λ x. x.name ≡ name)
     names name class is =
         by name class (bytes_eq name e.name) refl (sym (class_named-more held e name new.name) ∙ is)
+
+-- What is kept after an entry more.
+keys-push : (es : List (ℕ × Entry)) (p : ℕ × Entry) → AllByRecursion IsByClass es → IsByClass p → AllByRecursion IsByClass (es ++ p ∷ [])
+keys-push [] p keys key = (key, tt)
+keys-push (q ∷ es) p keys key = (keys.0, keys-push es p keys.1 key)
+
+IsKept-new : (classes more : List (ℕ × Entry)) (names after : List ℕ → Option ℕ) (class : ℕ) (e : Entry) → IsKept classes names → IsNew (values_of classes) e → AreRead e.elements → class ≡ e.class → more ≡ classes ++ (class, e) ∷ [] → ((name : List ℕ) → after name ≡ cond (bytes_eq name e.name) (Some class) (names name)) → IsKept more after
+IsKept-new classes more names after class e kept new read is pushed put =
+    let held : values_of more ≡ values_of classes ++ e ∷ [] = ap values_of pushed ∙ map-append (λ (p : ℕ × Entry). p.1) classes ((class, e) ∷ []) in
+    record {
+      keys = subst (AllByRecursion IsByClass) (sym pushed) (keys-push classes (class, e) kept.keys is);
+      sound = subst IsDictionary (sym held) (IsDictionary-new (values_of classes) e kept.sound new read);
+      named = λ name. put name ∙ (λ i. cond (bytes_eq name e.name) (Some (is i)) (kept.named name i)) ∙ sym (class_named-more (values_of classes) e name new.name) ∙ ap (λ held. class_named held name) (sym held);
+    }
+
+IsKept-same : (classes more : List (ℕ × Entry)) (names after : List ℕ → Option ℕ) → IsKept classes names → more ≡ classes → ((name : List ℕ) → after name ≡ names name) → IsKept more after
+IsKept-same classes more names after kept same stay = record {
+  keys = subst (AllByRecursion IsByClass) (sym same) kept.keys;
+  sound = subst (λ es. IsDictionary (values_of es)) (sym same) kept.sound;
+  named = λ name. stay name ∙ kept.named name ∙ ap (λ es. class_named (values_of es) name) (sym same);
+}
+
+pub IsKept-put : {T E : Type 0} (r : Result T E) (classes more : List (ℕ × Entry)) (names after : List ℕ → Option ℕ) (class : ℕ) (e : Entry) → IsKept classes names → IsNew (values_of classes) e → AreRead e.elements → class ≡ e.class → OnOk r (more ≡ classes ++ (class, e) ∷ []) → OnOk r ((name : List ℕ) → after name ≡ cond (bytes_eq name e.name) (Some class) (names name)) → OnErr r (more ≡ classes) → OnErr r ((name : List ℕ) → after name ≡ names name) → IsKept more after
+IsKept-put (Ok x) classes more names after class e kept new read is pushed put same stay =
+    IsKept-new classes more names after class e kept new read is pushed put
+IsKept-put (Err x) classes more names after class e kept new read is pushed put same stay =
+    IsKept-same classes more names after kept same stay
+
+pub IsKept-copy : (classes more : List (ℕ × Entry)) (names after : List ℕ → Option ℕ) → IsKept classes names → more ≡ classes → ((name : List ℕ) → after name ≡ names name) → IsKept more after
+IsKept-copy = IsKept-same

@@ -68,7 +68,3 @@ entries-Decides a b = (to, from)
     from : IsSameEntry a b → same_entries a b ≡ true
     from s =
         and-both (a.class == b.class && bytes_eq a.name b.name) (pointwise same_element a.elements b.elements) (and-both (a.class == b.class) (bytes_eq a.name b.name) ((Decides-eqb a.class b.class).1 s.class) ((bytes_eq-Decides a.name b.name).1 s.name)) ((pointwise-Decides same_element column_of element-Decides a.elements b.elements).1 s.columns)
-
--- the comparison from one place on, by the elements there
-pointwise-step : {A : Type 0} (E : A → A → Bool) (xs ys : List A) (i : ℕ) (x y : A) → i < length xs → i < length ys → x ≡ get_or xs i x → y ≡ get_or ys i y → pointwise E (drop i xs) (drop i ys) ≡ (E x y && pointwise E (drop (i + 1) xs) (drop (i + 1) ys))
-pointwise-step E xs ys i x y left right p q = ?

@@ -5,7 +5,7 @@ use std::alloc::AllocError;
 use type_text::{ElementType, ItemList, Name};
 
 /// One element of a structure. Calls that take an entry have the condition that `ty` is the type that `text` reads as.
-#[derive(Drop, Clone)]
+#[derive(Drop)]
 pub struct Element {
     pub name: Name,
     /// The type that `text` reads as, or None where it is no type.
@@ -19,7 +19,7 @@ pub struct Element {
 pub type ElementList = ItemList<Element>;
 
 /// What a file says of one class of structures.
-#[derive(Drop, Clone)]
+#[derive(Drop)]
 pub struct Entry {
     pub class: u16,
     /// The structure's name.
@@ -33,6 +33,32 @@ impl Entry {
     pub fn copy(&self) -> Result<Entry, AllocError>
         ensures { IfOk result (λ copy. copy ≡ self.now) }
     {
-        self.clone()
+        Ok(Entry {
+            class: self.class,
+            name: self.name.copy()?,
+            comment: self.comment.copy()?,
+            elements: self.elements.clone()?,
+        })
+    }
+}
+
+impl Clone for Entry {
+    ghost is_clone = { λ entry copy. copy ≡ entry };
+
+    fn clone(&self) -> Result<Entry, AllocError> {
+        self.copy()
+    }
+}
+
+impl Clone for Element {
+    ghost is_clone = { λ element copy. copy ≡ element };
+
+    fn clone(&self) -> Result<Element, AllocError> {
+        Ok(Element {
+            name: self.name.copy()?,
+            ty: self.ty.clone()?,
+            text: self.text.copy()?,
+            comment: self.comment.copy()?,
+        })
     }
 }

@@ -5,7 +5,7 @@ ghost use Rattle.indexmap.specs.IndexMap.{get};
 ghost use Rattle.dictionary.specs.Same.{AreRead, same_entries};
 ghost use Rattle.dictionary.specs.Dictionary.{entry_of, class_named, is_built_in, is_out_of_range, is_too_long, step, IsDictionary};
 ghost use Rattle.dictionary.specs.Verdicts.{IsNew, IsVerdict, IsVerdictOnNew};
-ghost use Rattle.dictionary.specs.Names.{Puts};
+ghost use Rattle.dictionary.specs.Names.{Puts, Leaves};
 
 use crate::{Entry, same_entry};
 use indexmap::IndexMap;
@@ -114,6 +114,7 @@ impl Dictionary {
     }
 
     /// What is to be done with an entry.
+    #[tactic(auto, unfolding(crate::specs::Dictionary::step))]
     fn verdict(&self, entry: &Entry) -> Verdict
         requires { AreRead entry.now.elements }
         ensures { IsVerdict self.now entry.now result }
@@ -223,7 +224,7 @@ fn put(
     ensures classes { OnOk result (by_class.new.entries ≡ by_class.old.entries ++ (class, entry) ∷ []) }
     ensures names { OnOk result (Puts by_name.old by_name.new entry.name class) }
     ensures classes_stay { OnErr result (by_class.new.entries ≡ by_class.old.entries) }
-    ensures names_stay { OnErr result (by_name.new.entries ≡ by_name.old.entries) }
+    ensures names_stay { OnErr result (Leaves by_name.old by_name.new) }
 {
     // The second insert then needs no memory.
     by_class.reserve(1)?;
