@@ -1,5 +1,5 @@
 //! The dictionary.
-ghost use Rattle.std.specs.Prelude.{◌≡◌, ◌++◌, [], ◌∷◌, Some, None, Err, nat_eq, if◌then◌else◌, IfOk, OnOk, OnErr, IfErr, IsOkUnless};
+ghost use Rattle.std.specs.Prelude.{◌≡◌, ◌++◌, [], ◌∷◌, Some, None, Ok, Err, nat_eq, if◌then◌else◌, IfOk, OnOk, OnErr, IfErr, IsOk, IsOkUnless};
 ghost use Rattle.std.specs.Option.{option_copied};
 ghost use Rattle.indexmap.specs.IndexMap.{get};
 ghost use Rattle.dictionary.specs.Same.{AreRead, same_entries};
@@ -98,12 +98,13 @@ impl Dictionary {
     ///
     /// Refuses it with the first fault that holds, in the order of `AddFault`. Of the classes 1 and 2, whose layouts are built
     /// in, only ElementLimit is judged. The dictionary changes only where the class is 3 to 255 and was not held.
-    /// NoMemory comes only where nothing else is refused. A refused entry is dropped, and the dictionary stays as it was.
+    /// NoMemory comes only where an entry was to be held. A refused entry is dropped, and the dictionary stays as it was.
     pub fn add(&mut self, entry: Entry) -> Result<(), AddFault>
         requires { AreRead entry.elements }
         ensures refused { IfErr (step self.old entry) (λ fault. result ≡ Err fault) }
         ensures accepted { IfOk (step self.old entry) (λ next. OnOk result (self.new ≡ next)) }
         ensures only_memory { OnOk (step self.old entry) (IsOkUnless result AddFault.NoMemory) }
+        ensures known { step self.old entry ≡ Ok self.old → IsOk result }
         ensures err { OnErr result (self.new ≡ self.old) }
     {
         match self.verdict(&entry) {
