@@ -1,9 +1,9 @@
 -- The class under each name after one more.
-use Rattle.std.proofs.Common.{◌≡◌, ℕ, Bool, true, false, cond, List, Option, Some, None, Vec, refl, sym, ◌∙◌, ap, subst}
+use Rattle.std.proofs.Common.{◌≡◌, ℕ, Bool, true, false, cond, List, Some, Vec, refl, sym, ◌∙◌, ap}
 use Rattle.std.proofs.lemmas.Slice.Eq.{bytes_eq-Decides}
 use Rattle.std.specs.Str.{bytes_eq}
 use Rattle.std.specs.HashMap.{HashMap, Updates}
-use Rattle.std.specs.Map.{lookup, KeepsOthers}
+use Rattle.std.specs.Map.{KeepsOthers}
 use Rattle.dictionary.specs.Names.{class_at, Puts}
 
 bytes_eq-other : (a b c : List ℕ) → bytes_eq a b ≡ true → bytes_eq a c ≡ bytes_eq b c

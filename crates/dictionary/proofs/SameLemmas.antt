@@ -1,5 +1,5 @@
 -- The tests of sameness say whether entries are the same.
-use Rattle.std.proofs.Common.{◌≡◌, ℕ, suc, ◌+◌, ◌<◌, ◌≤◌, Bool, true, false, ◌&&◌, ◌==◌, List, [], ◌∷◌, length, drop, get_or, map, Option, Some, None, Decides, refl, sym, ◌∙◌, ap, arith, drop-cons, add-one}
+use Rattle.std.proofs.Common.{◌≡◌, ℕ, Bool, true, false, ◌&&◌, ◌==◌, List, [], ◌∷◌, map, Option, Some, None, Decides, refl, ap}
 use Rattle.std.proofs.lemmas.Bool.Decides.{Decides-eqb}
 use Rattle.std.proofs.lemmas.Slice.Eq.{bytes_eq-Decides}
 use Rattle.std.specs.Str.{bytes_eq}
@@ -9,7 +9,7 @@ use Rattle.type_text.specs.TypeText.{type_of}
 use Rattle.type_text.proofs.Equality.{ElementType-eq-Decides}
 use Rattle.dictionary.specs.declared.entries.Element.{Element}
 use Rattle.dictionary.specs.declared.entries.Entry.{Entry}
-use Rattle.dictionary.specs.Same.{Meaning, Reads, Bytes, meaning_by, meaning_of, column_of, IsSameEntry, same_meaning, same_element, same_entries}
+use Rattle.dictionary.specs.Same.{Meaning, Reads, Bytes, meaning_by, column_of, IsSameEntry, same_meaning, same_element, same_entries}
 
 and-true : (a b : Bool) → (a && b) ≡ true → (a ≡ true) × (b ≡ true)
 and-true true true e = (refl, refl)

@@ -1,6 +1,5 @@
 -- Entries that describe the same structure. The Common Data Frame Format (LIGO-T970130 v8) describes a structure by an FrSH and its FrSEs; which of two are the same is this project's own rule.
-use Rattle.std.specs.Prelude.{◌≡◌, ℕ, Bool, true, false, ◌==◌, ◌&&◌, List, [], ◌∷◌, map, All, Option, Some, None}
-use Rattle.std.specs.Option.{option_map_or}
+use Rattle.std.specs.Prelude.{◌≡◌, ℕ, Bool, false, ◌==◌, ◌&&◌, List, map, All, Option, Some, None}
 use Rattle.std.specs.Str.{bytes_eq}
 use Rattle.std.specs.Cmp.Lexicographic.{pointwise}
 use Rattle.type_text.specs.declared.types.ElementType.{ElementType}

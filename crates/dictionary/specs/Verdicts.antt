@@ -1,5 +1,5 @@
 -- What is found of an entry before anything changes.
-use Rattle.std.specs.Prelude.{◌≡◌, ℕ, ◌≤◌, List, length, Option, None, ◌++◌, ◌∷◌, [], Ok, Err, Bool, if◌then◌else◌}
+use Rattle.std.specs.Prelude.{◌≡◌, ℕ, ◌≤◌, List, length, None, ◌++◌, ◌∷◌, [], Ok, Err}
 use Rattle.dictionary.specs.declared.entries.Entry.{Entry}
 use Rattle.dictionary.specs.declared.held.Verdict.{Verdict}
 use Rattle.dictionary.specs.declared.held.Verdict.TheVariants.{Refused, Known, New}

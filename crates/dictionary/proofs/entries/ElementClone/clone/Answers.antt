@@ -1,4 +1,3 @@
-use Rattle.std.proofs.Common.{◌≡◌}
 use Rattle.dictionary.proofs.CloneLemmas.{type-same}
 use Rattle.dictionary.proofs.entries.ElementClone.clone.Goals as goal
 

@@ -1,4 +1,4 @@
-use Rattle.std.proofs.Common.{◌≡◌, ap, sym, ◌∙◌, Vec, vec_len}
+use Rattle.std.proofs.Common.{◌≡◌, ap, ◌∙◌, vec_len}
 use Rattle.std.proofs.lemmas.List.Elements.{same_from_all_zip}
 use Rattle.std.specs.List.{AllZip}
 use Rattle.std.specs.Map.{values_of}

@@ -1,4 +1,4 @@
-use Rattle.std.proofs.Common.{ap, sym, ◌∙◌, subst, ◌≡◌}
+use Rattle.std.proofs.Common.{ap, sym, ◌∙◌, subst}
 use Rattle.dictionary.specs.Names.{class_at}
 use Rattle.dictionary.specs.Verdicts.{IsNew}
 use Rattle.dictionary.specs.Dictionary.{entry_of}
