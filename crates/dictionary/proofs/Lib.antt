@@ -1,0 +1,4 @@
+pub mod SameLemmas
+pub mod KeptLemmas
+pub mod CloneLemmas
+pub mod NameLemmas

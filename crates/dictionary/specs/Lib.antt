@@ -1,0 +1,5 @@
+pub mod Same
+pub mod Dictionary
+pub mod Kept
+pub mod Verdicts
+pub mod Names

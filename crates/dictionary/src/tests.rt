@@ -1,0 +1,124 @@
+//! Entries added to a dictionary in turn.
+ghost use Rattle.std.specs.Prelude.{IfOk};
+ghost use Rattle.dictionary.specs.Same.{IsRead, AreRead};
+
+use super::*;
+use std::alloc::{AllocError, Global};
+use std::test::Fail;
+use type_text::{Name, parse_type};
+
+fn element(alloc: Global, name: &str, text: &str) -> Result<Element, AllocError>
+    ensures { IfOk result IsRead }
+{
+    Ok(Element {
+        name: Name::new(alloc, name.as_bytes())?,
+        ty: parse_type(alloc, text.as_bytes())?,
+        text: Name::new(alloc, text.as_bytes())?,
+        comment: Name::new(alloc, b"")?,
+    })
+}
+
+/// The elements of these names, a letter each, all with the same text.
+fn elements(alloc: Global, count: usize, text: &str) -> Result<ElementList, AllocError>
+    ensures { IfOk result AreRead }
+{
+    let mut elements = ElementList::new(alloc);
+    for _ in 0..count {
+        elements.push(element(alloc, "x", text)?)?;
+    }
+    Ok(elements)
+}
+
+/// An entry's class, name, comment, and so many elements with the text; and what `add` answers.
+type Case = (
+    u16,
+    &'static str,
+    &'static str,
+    &'static str,
+    usize,
+    Option<AddFault>,
+);
+
+const CASES: [Case; 12] = [
+    (5, "A", "", "INT_4U", 1, None),
+    (5, "A", "another", " INT_4U ", 1, None),
+    (5, "A", "", "INT_2U", 1, Some(AddFault::Redefined)),
+    (6, "A", "", "", 0, Some(AddFault::NameTwice)),
+    (0, "B", "", "", 0, Some(AddFault::ClassRange)),
+    (256, "B", "", "", 0, Some(AddFault::ClassRange)),
+    (8, "C", "", "INT_3U", 1, None),
+    (8, "C", "", " INT_3U", 1, Some(AddFault::Redefined)),
+    (7, "D", "", "CHAR", 4097, Some(AddFault::ElementLimit)),
+    (1, "E", "", "CHAR", 1, None),
+    (1, "E", "", "CHAR", 4097, Some(AddFault::ElementLimit)),
+    (255, "F", "", "CHAR", 4096, None),
+];
+
+fn entry(
+    alloc: Global,
+    class: u16,
+    name: &str,
+    comment: &str,
+    elements: ElementList,
+) -> Result<Entry, AllocError>
+    requires { AreRead elements }
+    ensures { IfOk result (λ entry. AreRead entry.elements) }
+{
+    Ok(Entry {
+        class,
+        name: Name::new(alloc, name.as_bytes())?,
+        comment: Name::new(alloc, comment.as_bytes())?,
+        elements,
+    })
+}
+
+fn answers(alloc: Global, dictionary: &mut Dictionary, case: &Case) -> Result<bool, AllocError> {
+    let (class, name, comment, text, count, want) = *case;
+    let entry = entry(alloc, class, name, comment, elements(alloc, count, text)?)?;
+    Ok(dictionary.add(entry).err() == want)
+}
+
+/// Whether the first element of the entry held of the class has the text.
+fn has_text(dictionary: &Dictionary, class: u8, text: &[u8]) -> bool {
+    let Some(entry) = dictionary.get(class) else {
+        return false;
+    };
+    let Some(element) = entry.elements.as_slice().first() else {
+        return false;
+    };
+    element.text.bytes() == text
+}
+
+/// Whether the classes 5 and 8 are held as first added, and none of the refused.
+fn holds_first(dictionary: &Dictionary) -> bool {
+    has_text(dictionary, 5, b"INT_4U")
+        && has_text(dictionary, 8, b"INT_3U")
+        && dictionary.get(1).is_none()
+        && dictionary.get(6).is_none()
+        && dictionary.get(7).is_none()
+        && dictionary.named(b"A") == Some(5)
+        && dictionary.named(b"B").is_none()
+        && dictionary.named(b"E").is_none()
+}
+
+#[test]
+fn entries_are_added_in_turn(rt: HostRuntime) -> Result<(), Fail> {
+    let mut dictionary = Dictionary::new(rt.alloc());
+    for case in &CASES {
+        let same = answers(rt.alloc(), &mut dictionary, case)?;
+        assert!(rt; same, "class {}", case.0);
+    }
+    assert!(rt; holds_first(&dictionary));
+    assert!(rt; holds_first(&dictionary.copy()?));
+    Ok(())
+}
+
+#[test]
+fn comments_do_not_make_entries_differ(rt: HostRuntime) -> Result<(), Fail> {
+    let alloc = rt.alloc();
+    let first = entry(alloc, 5, "A", "one", elements(alloc, 2, "INT_4U[7]")?)?;
+    let same = entry(alloc, 5, "A", "two", elements(alloc, 2, "INT_4U [ 07 ]")?)?;
+    assert!(rt; same_entry(&first, &same));
+    assert!(rt; same_entry(&first.copy()?, &first));
+    Ok(())
+}

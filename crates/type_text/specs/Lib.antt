@@ -1,0 +1,3 @@
+pub mod Tokens
+pub mod TypeText
+pub mod Steps

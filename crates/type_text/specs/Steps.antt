@@ -1,0 +1,65 @@
+-- What a scan finds at the front of a text's tokens.
+use Rattle.std.specs.Prelude.{ℕ, Bool, true, false, ◌==◌, ◌&&◌, if◌then◌else◌, List, [], ◌∷◌, Option, Some, None, option_and_then}
+use Rattle.std.specs.Option.{option_map}
+use Rattle.type_text.specs.Tokens.{Token, Word, Mark, is_blank}
+use Rattle.type_text.specs.TypeText.{pointed_of, dims_of, dim_of, with_dim, base_of, is_name}
+use Rattle.type_text.specs.declared.types.Dim.{Dim}
+use Rattle.type_text.specs.declared.types.ElementType.{ElementType}
+use Rattle.type_text.specs.declared.types.Base.TheVariants.{Ptr}
+
+-- the first token, where it is a word, and the tokens after it
+abbrev pub first_word : List Token → Option (List ℕ × List Token)
+first_word (Word w ∷ ts) = Some (w, ts)
+first_word _ = None
+
+-- the tokens after the mark, where it is the first token
+abbrev pub after_mark : ℕ → List Token → Option (List Token)
+after_mark m (Mark k ∷ ts) = if k == m then Some ts else None
+after_mark m _ = None
+
+-- no token is left
+abbrev pub no_token : List Token → Bool
+no_token [] = true
+no_token (t ∷ ts) = false
+
+-- the bytes begin with a blank
+abbrev pub begins_blank : List ℕ → Bool
+begins_blank [] = false
+begins_blank (b ∷ bs) = is_blank b
+
+-- the word, and the tokens after the mark in front of the others
+abbrev pub closing : ℕ → List ℕ × List Token → Option (List ℕ × List Token)
+closing m found = option_map (λ rest. (found.0, rest)) (after_mark m found.1)
+
+-- the word in front, and the tokens after the mark right behind it
+abbrev pub word_before : ℕ → List Token → Option (List ℕ × List Token)
+word_before m ts = option_and_then (closing m) (first_word ts)
+
+-- the word in brackets in front, and the tokens after it
+abbrev pub bracketed_of : List Token → Option (List ℕ × List Token)
+bracketed_of ts = option_and_then (word_before 93) (after_mark 91 ts)
+
+-- the word before a star and a closing parenthesis in front, and the tokens after them
+abbrev pub starred_of : List Token → Option (List ℕ × List Token)
+starred_of ts = option_and_then (closing 41) (word_before 42 ts)
+
+-- the word before a star in parentheses in front, and the tokens after it
+abbrev pub parenthesized_of : List Token → Option (List ℕ × List Token)
+parenthesized_of ts = option_and_then starred_of (after_mark 40 ts)
+
+-- the dimensions that begin with a word in brackets
+abbrev pub dims_from : Option (List ℕ × List Token) → Option (List Dim)
+dims_from found = option_and_then (λ (f : List ℕ × List Token). with_dim (dim_of f.0) (dims_of f.1)) found
+
+-- the word in parentheses, where it is a name and nothing stands behind it
+abbrev pub pointed_from : Option (List ℕ × List Token) → Option (List ℕ)
+pointed_from found =
+    option_and_then (λ (f : List ℕ × List Token). if no_token f.1 && is_name f.0 then Some f.0 else None) found
+
+-- the type of the tokens after PTR_STRUCT
+abbrev pub pointer_type : List Token → Option ElementType
+pointer_type ts = option_map (λ to. record { base = Ptr to; dims = [] }) (pointed_of ts)
+
+-- the type of a base word and the tokens after it
+abbrev pub plain_type : List ℕ → List Token → Option ElementType
+plain_type w ts = option_and_then (λ base. option_map (λ dims. record { base = base; dims = dims }) (dims_of ts)) (base_of w)
