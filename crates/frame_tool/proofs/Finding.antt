@@ -10,6 +10,7 @@ use Rattle.frame_outside.specs.SlotReader.{Buffered, Advances, to_come}
 use Rattle.frame_tool.specs.declared.walk.Found.{Found}
 use Rattle.frame_tool.specs.declared.walk.Found.TheVariants.{End, Structure, Fault}
 use Rattle.frame_tool.specs.Walk.{record_limit}
+use Rattle.frame_tool.proofs.Faults.{stands_of_fits}
 use Rattle.frame_tool.specs.WalkSteps.{body_size_of, Judges, IsFound, Moves}
 
 -- a body is passed over whole where its structure is not too long
@@ -36,17 +37,7 @@ pub found_judged : (order : Order) (place : ℕ) (rest : List ℕ) (found : Foun
 found_judged order place rest End judged = nothing_left rest judged
 found_judged order place rest (Fault reason) judged = record { holds = judged.0; least = judged.1 }
 found_judged order place rest (Structure size) judged =
-    let size_is : length (take size rest) ≡ size = omega (arith, length-take size rest, judged.2) in (
-      judged.2,
-      record {
-        whole = record {
-          head = omega (arith, size_is, judged.1);
-          whole = ap (λ c. c.length) (common_of-take order size rest judged.1) ∙ judged.0 ∙ sym size_is;
-        };
-        small = omega (arith, size_is, judged.3);
-        within = omega (arith, size_is, judged.4);
-      },
-    )
+    (judged.2, stands_of_fits order place rest size (sym judged.0) (record { head = judged.1; small = judged.3; whole = judged.2; within = judged.4 }))
 
 -- how many bytes were seen where the head was read and the body passed over
 pub seen_is : (head rest : List ℕ) (read passed body : ℕ) → length head ≡ 14 → read ≤ length head →
