@@ -1,0 +1,65 @@
+-- What small bodies hold by the definitions.
+use Rattle.std.proofs.Common.{◌≡◌, List, [], ◌∷◌, Ok, Err, refl}
+use Rattle.scalar_types.specs.declared.Order.TheVariants.{Big, Little}
+use Rattle.scalar_types.specs.declared.Width.TheVariants.{One, Two, Four, Eight}
+use Rattle.record_values.specs.declared.values.Value.TheVariants as value
+use Rattle.layout_plan.specs.declared.fields.Form.{Form}
+use Rattle.layout_plan.specs.declared.fields.Form.TheVariants.{Number, Pair, Text}
+use Rattle.layout_plan.specs.declared.fields.Count.TheVariants.{Of}
+use Rattle.layout_plan.specs.declared.fields.Field.{Field}
+use Rattle.layout_plan.specs.declared.faults.BodyReason.TheVariants.{BodyShort, BodyLong, BadText}
+use Rattle.layout_plan.specs.Reading.{body_in, items_in}
+
+single : Form → List Field
+single form = record { form = form; counts = [] } ∷ []
+
+-- two numbers of eight bytes, and a list of numbers of two bytes with these two as dimensions
+table : List Field
+table =
+    record { form = Number Eight; counts = [] } ∷ record { form = Number Eight; counts = [] } ∷ record { form = Number Two; counts = Of 0 ∷ Of 1 ∷ [] } ∷ []
+
+-- 2^64 - 1 times 2 items, and no byte for them
+table-short : body_in Little table (255 ∷ 255 ∷ 255 ∷ 255 ∷ 255 ∷ 255 ∷ 255 ∷ 255 ∷ 2 ∷ 0 ∷ 0 ∷ 0 ∷ 0 ∷ 0 ∷ 0 ∷ 0 ∷ []) ≡ Err (record { field = 2; reason = BodyShort })
+unfolding body_in items_in table
+table-short = refl
+
+-- 2^64 - 1 times 0 items
+table-empty : body_in Little table (255 ∷ 255 ∷ 255 ∷ 255 ∷ 255 ∷ 255 ∷ 255 ∷ 255 ∷ 0 ∷ 0 ∷ 0 ∷ 0 ∷ 0 ∷ 0 ∷ 0 ∷ 0 ∷ []) ≡ Ok (value.Num 18446744073709551615 ∷ value.Num 0 ∷ value.Nums [] ∷ [], [])
+unfolding body_in items_in table
+table-empty = refl
+
+table-two : body_in Little table (2 ∷ 0 ∷ 0 ∷ 0 ∷ 0 ∷ 0 ∷ 0 ∷ 0 ∷ 1 ∷ 0 ∷ 0 ∷ 0 ∷ 0 ∷ 0 ∷ 0 ∷ 0 ∷ 1 ∷ 0 ∷ 2 ∷ 0 ∷ []) ≡ Ok (value.Num 2 ∷ value.Num 1 ∷ value.Nums (1 ∷ 2 ∷ []) ∷ [], [])
+unfolding body_in items_in table
+table-two = refl
+
+table-big : body_in Big table (0 ∷ 0 ∷ 0 ∷ 0 ∷ 0 ∷ 0 ∷ 0 ∷ 2 ∷ 0 ∷ 0 ∷ 0 ∷ 0 ∷ 0 ∷ 0 ∷ 0 ∷ 1 ∷ 0 ∷ 1 ∷ 0 ∷ 2 ∷ []) ≡ Ok (value.Num 2 ∷ value.Num 1 ∷ value.Nums (1 ∷ 2 ∷ []) ∷ [], [])
+unfolding body_in items_in table
+table-big = refl
+
+number-tail : body_in Little (single (Number One)) (5 ∷ 0 ∷ 0 ∷ 0 ∷ 0 ∷ []) ≡ Ok (value.Num 5 ∷ [], 0 ∷ 0 ∷ 0 ∷ 0 ∷ [])
+unfolding body_in single
+number-tail = refl
+
+number-long : body_in Little (single (Number One)) (5 ∷ 0 ∷ 0 ∷ []) ≡ Err (record { field = 1; reason = BodyLong })
+unfolding body_in single
+number-long = refl
+
+text-bare : body_in Little (single Text) (0 ∷ 0 ∷ []) ≡ Ok (value.Text [] ∷ [], [])
+unfolding body_in single
+text-bare = refl
+
+text-unended : body_in Little (single Text) (1 ∷ 0 ∷ 65 ∷ []) ≡ Err (record { field = 0; reason = BadText })
+unfolding body_in single
+text-unended = refl
+
+text-cut : body_in Little (single Text) (3 ∷ 0 ∷ 65 ∷ 0 ∷ []) ≡ Err (record { field = 0; reason = BodyShort })
+unfolding body_in single
+text-cut = refl
+
+text-closed : body_in Little (single Text) (2 ∷ 0 ∷ 65 ∷ 0 ∷ []) ≡ Ok (value.Text (65 ∷ []) ∷ [], [])
+unfolding body_in single
+text-closed = refl
+
+pair-complex : body_in Little (single (Pair Four)) (0 ∷ 0 ∷ 128 ∷ 63 ∷ 0 ∷ 0 ∷ 0 ∷ 64 ∷ []) ≡ Ok (value.Pair 0x3f80_0000 0x4000_0000 ∷ [], [])
+unfolding body_in single
+pair-complex = refl

@@ -1,0 +1,7 @@
+pub mod ExactLemmas
+pub mod BodyLemmas
+pub mod LayoutLemmas
+pub mod SpelledLemmas
+pub mod WalkLemmas
+pub mod Examples
+pub mod LentLemmas

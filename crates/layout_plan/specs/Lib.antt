@@ -1,0 +1,10 @@
+pub mod Layout
+pub mod Names
+pub mod Body
+pub mod Reading
+pub mod BodyLaws
+pub mod Exact
+pub mod Spelled
+pub mod Walking
+pub mod Lent
+pub mod Plans

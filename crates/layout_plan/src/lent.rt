@@ -1,0 +1,93 @@
+//! Fields read from the bytes of a body, without its values. Each call walks over the fields before the one that it reads.
+ghost use Rattle.std.specs.Prelude.{◌≡◌, ◌+◌, ◌≤◌, ◌<◌, ◌-◌, length, take, drop};
+ghost use Rattle.layout_plan.specs.Body.{HasBody};
+ghost use Rattle.layout_plan.specs.Layout.{IsLayout};
+ghost use Rattle.layout_plan.specs.Lent.{EndsAt, HasNumberAt, HasTextAt, IsNumberField, IsTextField, IsPlaced};
+
+use crate::spelled::field_at;
+use crate::walking::{FEW_FIELDS, FIELD_LIMIT, walk};
+use crate::{Field, Plan};
+use scalar_types::Order;
+
+/// A field's place in a body.
+#[derive(Clone, Copy)]
+struct Placed {
+    start: usize,
+    length: usize,
+    /// The number that the field is, or 0 where it is none.
+    number: u64,
+}
+
+/// Where a field begins and where it ends, in bytes from the beginning of a body that spells the layout. Takes no memory.
+pub fn span_of(plan: &Plan, order: Order, body: &[u8], field: u32) -> (usize, usize)
+    requires body { HasBody order plan.now body.now }
+    requires field { field < length plan.now }
+    ensures begins { EndsAt order plan.now body.now field result.0 }
+    ensures ends { EndsAt order plan.now body.now (field + 1) result.1 }
+    ensures forward { result.0 ≤ result.1 }
+    ensures within { result.1 ≤ length body.now }
+{
+    let placed = place_of(plan, order, body, field);
+    (placed.start, placed.start + placed.length)
+}
+
+/// The bits of a number without dimension, in a body that spells the layout. Takes no memory.
+pub fn num_at(plan: &Plan, order: Order, body: &[u8], field: u32) -> u64
+    requires body { HasBody order plan.now body.now }
+    requires field { field < length plan.now }
+    requires number { IsNumberField plan.now field }
+    ensures { HasNumberAt order plan.now body.now field result }
+{
+    place_of(plan, order, body, field).number
+}
+
+/// The text of a field without dimension, lent from a body that spells the layout, without its closing zero byte. Takes no memory.
+pub fn text_at<'a>(plan: &Plan, order: Order, body: &'a [u8], field: u32) -> &'a [u8]
+    requires body { HasBody order plan.now body.now }
+    requires field { field < length plan.now }
+    requires text { IsTextField plan.now field }
+    ensures { HasTextAt order plan.now body.now field result.now }
+{
+    let placed = place_of(plan, order, body, field);
+    text_of(&body[placed.start..placed.start + placed.length])
+}
+
+/// The text of a spelling, without its length and its closing zero byte.
+fn text_of(spelling: &[u8]) -> &[u8]
+    ensures { result.now ≡ take (length spelling.now - 3) (drop 2 spelling.now) }
+{
+    if spelling.len() <= 3 {
+        return &spelling[..0];
+    }
+    &spelling[2..spelling.len() - 1]
+}
+
+fn place_of(plan: &Plan, order: Order, body: &[u8], field: u32) -> Placed
+    requires body { HasBody order plan.now body.now }
+    requires field { field < length plan.now }
+    ensures { IsPlaced order plan.now body.now field result }
+{
+    let fields = plan.fields();
+    if fields.len() <= FEW_FIELDS {
+        place_in(fields, order, body, field as usize, &mut [0; FEW_FIELDS])
+    } else {
+        place_in(fields, order, body, field as usize, &mut [0; FIELD_LIMIT])
+    }
+}
+
+/// The place of a field, with room for the numbers of the fields.
+fn place_in(fields: &[Field], order: Order, body: &[u8], k: usize, numbers: &mut [u64]) -> Placed
+    requires layout { IsLayout fields.now }
+    requires room { length fields.now ≤ length numbers.old }
+    requires body { HasBody order fields.now body.now }
+    requires field { k < length fields.now }
+    ensures { IsPlaced order fields.now body.now k result }
+{
+    let start = walk(&fields[..k], order, body, numbers).unwrap().at;
+    let spelled = field_at(order, &fields[k], &numbers[..k], &body[start..]).unwrap();
+    Placed {
+        start,
+        length: spelled.length,
+        number: spelled.number,
+    }
+}

@@ -1,0 +1,26 @@
+//! Layouts compiled at run time: the fields of a record's body by its dictionary entry, and the bodies that spell them.
+//!
+//! `compile` makes the plan of an entry, and `measure` tells whether a body spells it.
+#![tactic(auto)]
+
+mod faults;
+mod fields;
+mod laws;
+mod lent;
+mod measuring;
+mod plan;
+mod plans;
+mod spelled;
+mod walking;
+
+pub use faults::{BodyFault, BodyReason, Measured};
+pub use fields::{Count, CountList, Field, Form};
+pub use laws::{bodies_have_one_answer, layouts_are_sound};
+pub use lent::{num_at, span_of, text_at};
+pub use measuring::measure;
+pub use plan::{Plan, compile};
+pub use plans::Plans;
+pub use spelled::capped_count;
+
+#[cfg(test)]
+mod tests;

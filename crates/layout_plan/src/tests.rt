@@ -1,0 +1,274 @@
+//! Small layouts and bodies with what `measure` answers.
+
+ghost use Rattle.std.specs.Prelude.{◌≡◌, ◌<◌, Some, IfSome, length, slice_get};
+ghost use Rattle.layout_plan.specs.Body.{HasBody};
+
+use super::*;
+use dictionary::{Element, ElementList, Entry};
+use scalar_types::Order;
+use std::alloc::{AllocError, Global};
+use std::test::Fail;
+use type_text::{Name, parse_type};
+
+/// The plan of a structure of these elements, each a name and a type text.
+fn plan(alloc: Global, elements: &[(&str, &str)]) -> Result<Option<Plan>, AllocError> {
+    let mut list = ElementList::new(alloc);
+    for (name, text) in elements {
+        list.push(Element {
+            name: Name::new(alloc, name.as_bytes())?,
+            ty: parse_type(alloc, text.as_bytes())?,
+            text: Name::new(alloc, text.as_bytes())?,
+            comment: Name::new(alloc, b"")?,
+        })?;
+    }
+    let entry = Entry {
+        class: 3,
+        name: Name::new(alloc, b"X")?,
+        comment: Name::new(alloc, b"")?,
+        elements: list,
+    };
+    if entry.elements.len() > 4096 {
+        return Ok(None);
+    }
+    compile(alloc, &entry)
+}
+
+/// What `measure` answers of the body, or None where the layout does not read.
+fn measured(
+    alloc: Global,
+    elements: &[(&str, &str)],
+    order: Order,
+    body: &[u8],
+) -> Result<Option<Result<Measured, BodyFault>>, AllocError> {
+    match plan(alloc, elements)? {
+        Some(plan) => Ok(Some(measure(&plan, order, body))),
+        None => Ok(None),
+    }
+}
+
+fn ok(zero_texts: u64, links: u64) -> Result<Measured, BodyFault> {
+    Ok(Measured { zero_texts, links })
+}
+
+fn fault(field: u32, reason: BodyReason) -> Result<Measured, BodyFault> {
+    Err(BodyFault { field, reason })
+}
+
+#[test]
+fn layouts_read_or_do_not(rt: HostRuntime) -> Result<(), Fail> {
+    for (first, second, third, reads) in [
+        (("n", "INT_1U"), ("v", "INT_4S[n][2]"), ("w", "CHAR"), true),
+        (("n", "INT_2U"), ("v", "CHAR[n]"), ("w", "REAL_8"), true),
+        (("n", "INT_4U"), ("n", "INT_4S"), ("w", "STRING[n]"), true),
+        (
+            ("n", "INT_8U"),
+            ("v", "COMPLEX_16[n]"),
+            ("p", "PTR_STRUCT(FrVect *)"),
+            true,
+        ),
+        (("n", "INT_4S"), ("v", "CHAR[n]"), ("w", "CHAR"), false),
+        (("n", "REAL_4"), ("v", "CHAR[n]"), ("w", "CHAR"), false),
+        (("n", "INT_4U[1]"), ("v", "CHAR[n]"), ("w", "CHAR"), false),
+        (("v", "CHAR[n]"), ("n", "INT_4U"), ("w", "CHAR"), false),
+        (("v", "CHAR"), ("n", "INT_4U[n]"), ("w", "CHAR"), false),
+        (("n", "INT_4S"), ("n", "INT_4U"), ("w", "CHAR[n]"), false),
+        (("v", "CHAR"), ("w", "CHAR"), ("n", "INT_3U"), false),
+    ] {
+        let plan = plan(rt.alloc(), &[first, second, third])?;
+        assert_eq!(rt; plan.is_some(), reads, "{first:?} {second:?} {third:?}");
+    }
+    Ok(())
+}
+
+#[test]
+fn bodies_are_measured(rt: HostRuntime) -> Result<(), Fail> {
+    let alloc = rt.alloc();
+    let short = fault(0, BodyReason::BodyShort);
+    for (text, body, want) in [
+        ("CHAR", [5, 0, 0, 0, 0].as_slice(), ok(0, 0)),
+        ("CHAR", [5, 0, 0].as_slice(), fault(1, BodyReason::BodyLong)),
+        ("STRING", [0, 0].as_slice(), ok(1, 0)),
+        (
+            "STRING",
+            [1, 0, 0x41].as_slice(),
+            fault(0, BodyReason::BadText),
+        ),
+        ("STRING", [3, 0, 0x41, 0].as_slice(), short),
+        ("STRING", [2, 0, 0x41, 0].as_slice(), ok(0, 0)),
+        (
+            "COMPLEX_8",
+            [0, 0, 0x80, 0x3f, 0, 0, 0, 0x40].as_slice(),
+            ok(0, 0),
+        ),
+        ("COMPLEX_8", [0, 0, 0x80, 0x3f, 0, 0, 0].as_slice(), short),
+        ("PTR_STRUCT(X *)", [1, 0, 2, 0, 0, 0].as_slice(), ok(0, 1)),
+        ("PTR_STRUCT(X *)", [1, 0, 2, 0, 0].as_slice(), short),
+        ("INT_4U[2]", [0, 0, 0, 0, 0, 0, 0, 0].as_slice(), ok(0, 0)),
+        ("STRING[2]", [0, 0, 1, 0, 0].as_slice(), ok(1, 0)),
+        (
+            "CHAR[4294967295][4294967295][4294967295][4294967295][0]",
+            [].as_slice(),
+            ok(0, 0),
+        ),
+        (
+            "CHAR[4294967295][4294967295][4294967295][4294967295]",
+            [].as_slice(),
+            short,
+        ),
+    ] {
+        let found = measured(alloc, &[("a", text)], Order::Little, body)?;
+        assert_eq!(rt; found, Some(want), "{text} {body:?}");
+    }
+    Ok(())
+}
+
+/// A body of two numbers of eight bytes and then these.
+fn two_and(
+    alloc: Global,
+    order: Order,
+    a: u64,
+    b: u64,
+    rest: &[u8],
+) -> Result<Vec<u8>, AllocError> {
+    let mut body = Vec::new(alloc);
+    for n in [a, b] {
+        match order {
+            Order::Little => body.extend_from_slice(&n.to_le_bytes())?,
+            Order::Big => body.extend_from_slice(&n.to_be_bytes())?,
+        }
+    }
+    body.extend_from_slice(rest)?;
+    Ok(body)
+}
+
+#[test]
+fn counts_stand_in_the_same_body(rt: HostRuntime) -> Result<(), Fail> {
+    let alloc = rt.alloc();
+    for (text, order, a, b, rest, want) in [
+        (
+            "INT_2U[a][b]",
+            Order::Little,
+            u64::MAX,
+            2,
+            [].as_slice(),
+            fault(2, BodyReason::BodyShort),
+        ),
+        (
+            "INT_2U[a][b]",
+            Order::Little,
+            u64::MAX,
+            0,
+            [].as_slice(),
+            ok(0, 0),
+        ),
+        (
+            "INT_2U[a][b]",
+            Order::Little,
+            2,
+            1,
+            [1, 0, 2, 0].as_slice(),
+            ok(0, 0),
+        ),
+        (
+            "INT_2U[a][b]",
+            Order::Big,
+            2,
+            1,
+            [0, 1, 0, 2].as_slice(),
+            ok(0, 0),
+        ),
+        (
+            "STRING[a]",
+            Order::Little,
+            u64::MAX,
+            0,
+            [0; 10].as_slice(),
+            fault(2, BodyReason::BodyShort),
+        ),
+        (
+            "STRING[a][b]",
+            Order::Big,
+            3,
+            1,
+            [0, 0, 0, 2, 0x41, 0, 0, 0].as_slice(),
+            ok(2, 0),
+        ),
+    ] {
+        let body = two_and(alloc, order, a, b, rest)?;
+        let elements = [("a", "INT_8U"), ("b", "INT_8U"), ("c", text)];
+        let found = measured(alloc, &elements, order, &body)?;
+        assert_eq!(rt; found, Some(want), "{text} {body:?}");
+    }
+    Ok(())
+}
+
+/// The number in a field, or None where the body does not read or the field is no single number.
+fn number(plan: &Plan, order: Order, body: &[u8], field: u32) -> Option<u64> {
+    let each = read_field(plan, order, body, field)?;
+    if !each.counts.is_empty() {
+        return None;
+    }
+    let Form::Number(_) = each.form else {
+        return None;
+    };
+    Some(num_at(plan, order, body, field))
+}
+
+/// The text in a field, or None where the body does not read or the field is no single text.
+fn text<'a>(plan: &Plan, order: Order, body: &'a [u8], field: u32) -> Option<&'a [u8]> {
+    let each = read_field(plan, order, body, field)?;
+    if !each.counts.is_empty() {
+        return None;
+    }
+    let Form::Text = each.form else {
+        return None;
+    };
+    Some(text_at(plan, order, body, field))
+}
+
+fn span(plan: &Plan, order: Order, body: &[u8], field: u32) -> Option<(usize, usize)> {
+    read_field(plan, order, body, field)?;
+    Some(span_of(plan, order, body, field))
+}
+
+/// The field of this number, or None where the body does not read or there is none.
+fn read_field<'a>(plan: &'a Plan, order: Order, body: &[u8], field: u32) -> Option<&'a Field>
+    ensures { IfSome result
+        (λ each. HasBody order plan.now body.now × (field < length plan.now) × (slice_get plan.now field ≡ Some each.now)) }
+{
+    let Ok(_) = measure(plan, order, body) else {
+        return None;
+    };
+    let fields = plan.fields();
+    if field as usize >= fields.len() {
+        return None;
+    }
+    Some(&fields[field as usize])
+}
+
+#[test]
+fn fields_are_read_from_lent_bytes(rt: HostRuntime) -> Result<(), Fail> {
+    let alloc = rt.alloc();
+    let elements = [
+        ("n", "INT_1U"),
+        ("v", "INT_2U[n]"),
+        ("t", "STRING"),
+        ("w", "INT_4S"),
+    ];
+    let Some(plan) = plan(alloc, &elements)? else {
+        return Err("the layout does not read".into());
+    };
+    let body = [2, 0, 1, 0, 2, 0, 3, 0x41, 0x42, 0, 0, 0, 1, 2, 9, 9, 9, 9].as_slice();
+    let order = Order::Big;
+    assert_eq!(rt; number(&plan, order, body, 0), Some(2));
+    assert_eq!(rt; span(&plan, order, body, 1), Some((1, 5)));
+    assert_eq!(rt; text(&plan, order, body, 2), Some(b"AB".as_slice()));
+    assert_eq!(rt; number(&plan, order, body, 3), Some(0x0102));
+    assert_eq!(rt; number(&plan, order, body, 1), None);
+    let order = Order::Little;
+    let bare = [0, 0, 0, 7, 0, 0, 0].as_slice();
+    assert_eq!(rt; span(&plan, order, bare, 2), Some((1, 3)));
+    assert_eq!(rt; text(&plan, order, bare, 2), Some(b"".as_slice()));
+    assert_eq!(rt; number(&plan, order, bare, 3), Some(7));
+    Ok(())
+}
