@@ -5,3 +5,4 @@ pub mod SpelledLemmas
 pub mod WalkLemmas
 pub mod Examples
 pub mod LentLemmas
+pub mod LinkLemmas

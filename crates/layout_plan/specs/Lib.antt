@@ -8,3 +8,4 @@ pub mod Spelled
 pub mod Walking
 pub mod Lent
 pub mod Plans
+pub mod Links

@@ -11,11 +11,11 @@ use scalar_types::Order;
 
 /// A field's place in a body.
 #[derive(Clone, Copy)]
-struct Placed {
-    start: usize,
-    length: usize,
+pub struct Placed {
+    pub start: usize,
+    pub length: usize,
     /// The number that the field is, or 0 where it is none.
-    number: u64,
+    pub number: u64,
 }
 
 /// Where a field begins and where it ends, in bytes from the beginning of a body that spells the layout. Takes no memory.
@@ -62,7 +62,7 @@ fn text_of(spelling: &[u8]) -> &[u8]
     &spelling[2..spelling.len() - 1]
 }
 
-fn place_of(plan: &Plan, order: Order, body: &[u8], field: u32) -> Placed
+pub fn place_of(plan: &Plan, order: Order, body: &[u8], field: u32) -> Placed
     requires body { HasBody order plan.now body.now }
     requires field { field < length plan.now }
     ensures { IsPlaced order plan.now body.now field result }

@@ -8,7 +8,7 @@ use dictionary::{Element, ElementList, Entry};
 use scalar_types::Order;
 use std::alloc::{AllocError, Global};
 use std::test::Fail;
-use type_text::{Name, parse_type};
+use type_text::{Link, Name, parse_type};
 
 /// The plan of a structure of these elements, each a name and a type text.
 fn plan(alloc: Global, elements: &[(&str, &str)]) -> Result<Option<Plan>, AllocError> {
@@ -106,12 +106,12 @@ fn bodies_are_measured(rt: HostRuntime) -> Result<(), Fail> {
         ("INT_4U[2]", [0, 0, 0, 0, 0, 0, 0, 0].as_slice(), ok(0, 0)),
         ("STRING[2]", [0, 0, 1, 0, 0].as_slice(), ok(1, 0)),
         (
-            "CHAR[4294967295][4294967295][4294967295][4294967295][0]",
+            "CHAR[4294967295][4294967295][4294967295][4294967295][4294967295][4294967295][4294967295][0]",
             [].as_slice(),
             ok(0, 0),
         ),
         (
-            "CHAR[4294967295][4294967295][4294967295][4294967295]",
+            "CHAR[4294967295][4294967295][4294967295][4294967295][4294967295][4294967295][4294967295][4294967295]",
             [].as_slice(),
             short,
         ),
@@ -231,6 +231,17 @@ fn span(plan: &Plan, order: Order, body: &[u8], field: u32) -> Option<(usize, us
     Some(span_of(plan, order, body, field))
 }
 
+/// The link of this number, or None where the body does not read or has no more links.
+fn link(plan: &Plan, order: Order, body: &[u8], k: u64) -> Option<Link> {
+    let Ok(measured) = measure(plan, order, body) else {
+        return None;
+    };
+    if k >= measured.links {
+        return None;
+    }
+    Some(link_at(plan, order, body, k))
+}
+
 /// The field of this number, or None where the body does not read or there is none.
 fn read_field<'a>(plan: &'a Plan, order: Order, body: &[u8], field: u32) -> Option<&'a Field>
     ensures { IfSome result
@@ -270,5 +281,32 @@ fn fields_are_read_from_lent_bytes(rt: HostRuntime) -> Result<(), Fail> {
     assert_eq!(rt; span(&plan, order, bare, 2), Some((1, 3)));
     assert_eq!(rt; text(&plan, order, bare, 2), Some(b"".as_slice()));
     assert_eq!(rt; number(&plan, order, bare, 3), Some(7));
+    Ok(())
+}
+
+#[test]
+fn links_are_read_from_lent_bytes(rt: HostRuntime) -> Result<(), Fail> {
+    let alloc = rt.alloc();
+    let elements = [
+        ("a", "PTR_STRUCT(X *)"),
+        ("n", "INT_1U"),
+        ("v", "STRING[n]"),
+        ("b", "PTR_STRUCT(X *)"),
+    ];
+    let Some(plan) = plan(alloc, &elements)? else {
+        return Err("the layout does not read".into());
+    };
+    let body = [0, 7, 0, 0, 1, 0, 2, 0, 0, 0, 1, 0, 1, 2, 3, 4, 5, 6].as_slice();
+    let first = Link {
+        class: 7,
+        instance: 256,
+    };
+    let second = Link {
+        class: 0x0102,
+        instance: 0x0304_0506,
+    };
+    assert_eq!(rt; link(&plan, Order::Big, body, 0), Some(first));
+    assert_eq!(rt; link(&plan, Order::Big, body, 1), Some(second));
+    assert_eq!(rt; link(&plan, Order::Big, body, 2), None);
     Ok(())
 }
