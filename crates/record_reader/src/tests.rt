@@ -2,7 +2,7 @@
 use super::*;
 use dictionary::{Element, ElementList, Entry};
 use layout_plan::{BodyFault, BodyReason, Plan, compile};
-use record_values::{NumList, PairList, TextList, Value, same_values};
+use record_values::{NumList, PairList, TextList, Value, ValueList, same_values};
 use scalar_types::Order;
 use std::alloc::{AllocError, Global};
 use std::test::Fail;
@@ -51,134 +51,142 @@ fn pairs(alloc: Global, items: &[(u64, u64)]) -> Result<Value, AllocError> {
     Ok(Value::Pairs(list))
 }
 
-fn text(alloc: Global, text: &[u8]) -> Result<Value, AllocError> {
-    Ok(Value::Text(Name::new(alloc, text)?))
+fn texts(alloc: Global, items: &[&[u8]]) -> Result<Value, AllocError> {
+    let mut list = TextList::new(alloc);
+    for item in items {
+        list.push(Name::new(alloc, item)?)?;
+    }
+    Ok(Value::Texts(list))
 }
 
-fn bytes(alloc: Global, bytes: &[u8]) -> Result<Value, AllocError> {
-    Ok(Value::Bytes(Name::new(alloc, bytes)?))
+/// A value of each base, for the layout `SINGLES`.
+fn singles(alloc: Global) -> Result<ValueList, AllocError> {
+    let mut values = ValueList::new(alloc);
+    for number in [255, 0x0102, 0xffff_fffe, 0x0102_0304_0506_0708, 0x3f80_0000] {
+        values.push(Value::Num(number))?;
+    }
+    for (first, second) in [(1, 0x4000_0000), (3, 4)] {
+        values.push(Value::Pair(first, second))?;
+    }
+    for text in [b"A".as_slice(), b"".as_slice()] {
+        values.push(Value::Text(Name::new(alloc, text)?))?;
+    }
+    values.push(Value::Link(Link {
+        class: 7,
+        instance: 256,
+    }))?;
+    Ok(values)
+}
+
+const SINGLES: [(&str, &str); 10] = [
+    ("a", "INT_1S"),
+    ("b", "INT_2U"),
+    ("c", "INT_4S"),
+    ("d", "INT_8U"),
+    ("e", "REAL_4"),
+    ("f", "COMPLEX_8"),
+    ("g", "COMPLEX_16"),
+    ("h", "STRING"),
+    ("i", "STRING"),
+    ("j", "PTR_STRUCT(FrVect *)"),
+];
+
+/// A list of each form, for the layout `LISTS`.
+fn lists(alloc: Global) -> Result<ValueList, AllocError> {
+    let mut values = ValueList::new(alloc);
+    values.push(Value::Num(2))?;
+    values.push(Value::Num(9))?;
+    values.push(Value::Bytes(Name::new(alloc, &[3, 255])?))?;
+    values.push(nums(alloc, &[1, 2, 3, 4])?)?;
+    values.push(nums(alloc, &[5, u64::MAX])?)?;
+    values.push(pairs(alloc, &[(1, 2), (3, 4)])?)?;
+    values.push(texts(alloc, &[b"", b"AB"])?)?;
+    Ok(values)
+}
+
+const LISTS: [(&str, &str); 7] = [
+    ("n", "INT_1U"),
+    ("n", "CHAR"),
+    ("a", "CHAR_U[n]"),
+    ("b", "INT_2S[2][n]"),
+    ("c", "INT_8U[n]"),
+    ("d", "COMPLEX_8[n]"),
+    ("e", "STRING[n]"),
+];
+
+const COUNTS: [(&str, &str); 3] = [("a", "INT_8U"), ("b", "INT_8U"), ("c", "INT_2U[a][b]")];
+
+/// Two numbers and a list, for the layout `COUNTS`.
+fn counted(alloc: Global, a: u64, b: u64, items: &[u64]) -> Result<ValueList, AllocError> {
+    let mut values = ValueList::new(alloc);
+    values.push(Value::Num(a))?;
+    values.push(Value::Num(b))?;
+    values.push(nums(alloc, items)?)?;
+    Ok(values)
+}
+
+/// Whether the body is read as these values.
+fn reads(
+    alloc: Global,
+    types: &[(&str, &str)],
+    order: Order,
+    body: &[u8],
+    want: &ValueList,
+) -> Result<bool, Fail> {
+    let plan = plan(alloc, types)?.ok_or("not readable")?;
+    let values = read_body(alloc, &plan, order, body)?;
+    Ok(same_values(values.as_slice(), want.as_slice()))
 }
 
 #[test]
 fn single_items_of_each_base(rt: HostRuntime) -> Result<(), Fail> {
     let alloc = rt.alloc();
-    let types = [
-        ("a", "INT_1S"),
-        ("b", "INT_2U"),
-        ("c", "INT_4S"),
-        ("d", "INT_8U"),
-        ("e", "REAL_4"),
-        ("f", "COMPLEX_8"),
-        ("g", "COMPLEX_16"),
-        ("h", "STRING"),
-        ("i", "STRING"),
-        ("j", "PTR_STRUCT(FrVect *)"),
-        ("k", "CHAR_U"),
-    ];
-    let plan = plan(alloc, &types)?.ok_or("not readable")?;
-    let want = [
-        Value::Num(255),
-        Value::Num(0x0102),
-        Value::Num(0xffff_fffe),
-        Value::Num(0x0102_0304_0506_0708),
-        Value::Num(0x3f80_0000),
-        Value::Pair(1, 0x4000_0000),
-        Value::Pair(3, 4),
-        text(alloc, b"A")?,
-        text(alloc, b"")?,
-        Value::Link(Link {
-            class: 7,
-            instance: 256,
-        }),
-        Value::Num(66),
-    ];
+    let want = singles(alloc)?;
     let little = [
         255, 2, 1, 254, 255, 255, 255, 8, 7, 6, 5, 4, 3, 2, 1, 0, 0, 128, 63, 1, 0, 0, 0, 0, 0, 0,
         64, 3, 0, 0, 0, 0, 0, 0, 0, 4, 0, 0, 0, 0, 0, 0, 0, 2, 0, 65, 0, 0, 0, 7, 0, 0, 1, 0, 0,
-        66,
     ];
+    // In big order the empty text is closed by its zero byte, and four unlisted bytes stand at the end.
     let big = [
         255, 1, 2, 255, 255, 255, 254, 1, 2, 3, 4, 5, 6, 7, 8, 63, 128, 0, 0, 0, 0, 0, 1, 64, 0, 0,
         0, 0, 0, 0, 0, 0, 0, 0, 3, 0, 0, 0, 0, 0, 0, 0, 4, 0, 2, 65, 0, 0, 1, 0, 0, 7, 0, 0, 1, 0,
-        66,
+        9, 9, 9, 9,
     ];
-    let values = read_body(alloc, &plan, Order::Little, &little)?;
-    assert!(rt; same_values(values.as_slice(), &want));
-    // In big order the empty text is closed by its zero byte, and four unlisted bytes stand at the end.
-    let mut longer = Vec::from_slice(alloc, &big)?;
-    longer.extend_from_slice(&[9; 4])?;
-    let values = read_body(alloc, &plan, Order::Big, &longer)?;
-    assert!(rt; same_values(values.as_slice(), &want));
+    assert!(rt; reads(alloc, &SINGLES, Order::Little, &little, &want)?);
+    assert!(rt; reads(alloc, &SINGLES, Order::Big, &big, &want)?);
     Ok(())
 }
 
 #[test]
 fn lists_of_each_form(rt: HostRuntime) -> Result<(), Fail> {
     let alloc = rt.alloc();
-    let types = [
-        ("n", "INT_1U"),
-        ("n", "CHAR"),
-        ("a", "CHAR_U[n]"),
-        ("b", "INT_2S[2][n]"),
-        ("c", "INT_8U[n]"),
-        ("d", "COMPLEX_8[n]"),
-        ("e", "STRING[n]"),
-        ("f", "PTR_STRUCT(X *)"),
-    ];
-    let plan = plan(alloc, &types)?.ok_or("not readable")?;
-    let mut texts = TextList::new(alloc);
-    texts.push(Name::new(alloc, b"")?)?;
-    texts.push(Name::new(alloc, b"AB")?)?;
-    let want = [
-        Value::Num(2),
-        Value::Num(9),
-        bytes(alloc, &[3, 255])?,
-        nums(alloc, &[1, 2, 3, 4])?,
-        nums(alloc, &[5, u64::MAX])?,
-        pairs(alloc, &[(1, 2), (3, 4)])?,
-        Value::Texts(texts),
-        Value::Link(Link {
-            class: 0,
-            instance: 0,
-        }),
-    ];
+    let want = lists(alloc)?;
     let body = [
         2, 9, 3, 255, 0, 1, 0, 2, 0, 3, 0, 4, 0, 0, 0, 0, 0, 0, 0, 5, 255, 255, 255, 255, 255, 255,
-        255, 255, 0, 0, 0, 1, 0, 0, 0, 2, 0, 0, 0, 3, 0, 0, 0, 4, 0, 0, 0, 3, 65, 66, 0, 0, 0, 0,
-        0, 0, 0,
+        255, 255, 0, 0, 0, 1, 0, 0, 0, 2, 0, 0, 0, 3, 0, 0, 0, 4, 0, 0, 0, 3, 65, 66, 0,
     ];
-    let values = read_body(alloc, &plan, Order::Big, &body)?;
-    assert!(rt; same_values(values.as_slice(), &want));
+    assert!(rt; reads(alloc, &LISTS, Order::Big, &body, &want)?);
     Ok(())
 }
 
 #[test]
 fn counts_of_the_same_body(rt: HostRuntime) -> Result<(), Fail> {
     let alloc = rt.alloc();
-    let types = [("a", "INT_8U"), ("b", "INT_8U"), ("c", "INT_2U[a][b]")];
-    let plan = plan(alloc, &types)?.ok_or("not readable")?;
-    let short = BodyError::Fault(BodyFault {
-        field: 2,
-        reason: BodyReason::BodyShort,
-    });
-    let body = [
-        255, 255, 255, 255, 255, 255, 255, 255, 2, 0, 0, 0, 0, 0, 0, 0,
-    ];
-    assert_eq!(rt;
-        read_body(alloc, &plan, Order::Little, &body).err(),
-        Some(short)
-    );
     let body = [
         255, 255, 255, 255, 255, 255, 255, 255, 0, 0, 0, 0, 0, 0, 0, 0,
     ];
-    let values = read_body(alloc, &plan, Order::Little, &body)?;
-    let want = [Value::Num(u64::MAX), Value::Num(0), nums(alloc, &[])?];
-    assert!(rt; same_values(values.as_slice(), &want));
+    let want = counted(alloc, u64::MAX, 0, &[])?;
+    assert!(rt; reads(alloc, &COUNTS, Order::Little, &body, &want)?);
     let body = [2, 0, 0, 0, 0, 0, 0, 0, 1, 0, 0, 0, 0, 0, 0, 0, 1, 0, 2, 0];
-    let values = read_body(alloc, &plan, Order::Little, &body)?;
-    let want = [Value::Num(2), Value::Num(1), nums(alloc, &[1, 2])?];
-    assert!(rt; same_values(values.as_slice(), &want));
+    let want = counted(alloc, 2, 1, &[1, 2])?;
+    assert!(rt; reads(alloc, &COUNTS, Order::Little, &body, &want)?);
     Ok(())
+}
+
+/// The fault of a body, or None where it is read.
+fn fault(alloc: Global, types: &[(&str, &str)], body: &[u8]) -> Result<Option<BodyError>, Fail> {
+    let plan = plan(alloc, types)?.ok_or("not readable")?;
+    Ok(read_body(alloc, &plan, Order::Little, body).err())
 }
 
 #[test]
@@ -203,10 +211,17 @@ fn faults_at_their_fields(rt: HostRuntime) -> Result<(), Fail> {
         ),
         ("CHAR[3]", [1, 2].as_slice(), 0, BodyReason::BodyShort),
     ] {
-        let plan = plan(alloc, &[("a", ty)])?.ok_or("not readable")?;
-        let answer = read_body(alloc, &plan, Order::Little, body).err();
-        let fault = BodyFault { field, reason };
-        assert_eq!(rt; answer, Some(BodyError::Fault(fault)), "{ty} {body:?}");
+        let answer = fault(alloc, &[("a", ty)], body)?;
+        let want = BodyError::Fault(BodyFault { field, reason });
+        assert_eq!(rt; answer, Some(want), "{ty} {body:?}");
     }
+    let body = [
+        255, 255, 255, 255, 255, 255, 255, 255, 2, 0, 0, 0, 0, 0, 0, 0,
+    ];
+    let want = BodyError::Fault(BodyFault {
+        field: 2,
+        reason: BodyReason::BodyShort,
+    });
+    assert_eq!(rt; fault(alloc, &COUNTS, &body)?, Some(want));
     Ok(())
 }
