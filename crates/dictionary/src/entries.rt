@@ -1,8 +1,8 @@
 //! An entry: the structure's class and name, and its elements in order.
 ghost use Rattle.std.specs.Prelude.{◌≡◌, IfOk};
 
-use std::alloc::AllocError;
-use type_text::{ElementType, ItemList, Name};
+use std::alloc::{AllocError, Global};
+use type_text::{ElementType, ItemList, Name, parse_type};
 
 /// One element of a structure. Calls that take an entry have the condition that `ty` is the type that `text` reads as.
 #[derive(Drop)]
@@ -13,6 +13,27 @@ pub struct Element {
     /// The type's text as the file has it.
     pub text: Name,
     pub comment: Name,
+}
+
+impl Element {
+    ghost use Rattle.type_text.specs.TypeText.{type_of};
+    ghost use Rattle.dictionary.specs.Same.{IsRead};
+
+    /// The element of this name, text and comment whose type is what the text reads as, so that its entry may be given to each
+    /// call that takes one. A text that is no type is no error. Takes memory for the type alone.
+    pub fn new(alloc: Global, name: Name, text: Name, comment: Name) -> Result<Element, AllocError>
+        ensures given { IfOk result
+            (λ element. element ≡ record { name = name; ty = type_of text; text = text; comment = comment }) }
+        ensures read { IfOk result IsRead }
+    {
+        let ty = parse_type(alloc, text.bytes())?;
+        Ok(Element {
+            name,
+            ty,
+            text,
+            comment,
+        })
+    }
 }
 
 /// The elements in the order of the structure's body.

@@ -5,17 +5,15 @@ ghost use Rattle.dictionary.specs.Same.{IsRead, AreRead};
 use super::*;
 use std::alloc::{AllocError, Global};
 use std::test::Fail;
-use type_text::{Name, parse_type};
+use type_text::{Base, Name};
 
-fn element(alloc: Global, name: &str, text: &str) -> Result<Element, AllocError>
+fn element(alloc: Global, name: &str, text: &str, comment: &str) -> Result<Element, AllocError>
     ensures { IfOk result IsRead }
 {
-    Ok(Element {
-        name: Name::new(alloc, name.as_bytes())?,
-        ty: parse_type(alloc, text.as_bytes())?,
-        text: Name::new(alloc, text.as_bytes())?,
-        comment: Name::new(alloc, b"")?,
-    })
+    let name = Name::new(alloc, name.as_bytes())?;
+    let text = Name::new(alloc, text.as_bytes())?;
+    let comment = Name::new(alloc, comment.as_bytes())?;
+    Element::new(alloc, name, text, comment)
 }
 
 /// The elements of these names, a letter each, all with the same text.
@@ -24,7 +22,7 @@ fn elements(alloc: Global, count: usize, text: &str) -> Result<ElementList, Allo
 {
     let mut elements = ElementList::new(alloc);
     for _ in 0..count {
-        elements.push(element(alloc, "x", text)?)?;
+        elements.push(element(alloc, "x", text, "")?)?;
     }
     Ok(elements)
 }
@@ -99,6 +97,28 @@ fn holds_first(dictionary: &Dictionary) -> bool {
         && dictionary.named(b"A") == Some(5)
         && dictionary.named(b"B").is_none()
         && dictionary.named(b"E").is_none()
+}
+
+/// Whether the element has this name, text and comment, and a type of this base; None stands for no type.
+fn has_parts(element: &Element, parts: [&str; 3], base: Option<Base>) -> bool {
+    let [name, text, comment] = parts;
+    let found = element.ty.as_ref().map(|ty| &ty.base);
+    found == base.as_ref()
+        && element.name.bytes() == name.as_bytes()
+        && element.text.bytes() == text.as_bytes()
+        && element.comment.bytes() == comment.as_bytes()
+}
+
+#[test]
+fn elements_have_the_types_that_their_texts_read_as(rt: HostRuntime) -> Result<(), Fail> {
+    for (text, base) in [(" INT_4U [ 07 ]", Some(Base::Int4U)), ("INT_3U", None)] {
+        let element = element(rt.alloc(), "n", text, "how many")?;
+        assert!(rt;
+            has_parts(&element, ["n", text, "how many"], base),
+            "{text}"
+        );
+    }
+    Ok(())
 }
 
 #[test]
