@@ -8,25 +8,32 @@ use dictionary::{Element, ElementList, Entry};
 use scalar_types::Order;
 use std::alloc::{AllocError, Global};
 use std::test::Fail;
-use type_text::{Link, Name, parse_type};
+use type_text::{Link, Name};
 
-/// The plan of a structure of these elements, each a name and a type text.
-fn plan(alloc: Global, elements: &[(&str, &str)]) -> Result<Option<Plan>, AllocError> {
+/// An entry of this class with these elements, each a name and a type text.
+pub fn entry(alloc: Global, class: u16, elements: &[(&str, &str)]) -> Result<Entry, AllocError> {
     let mut list = ElementList::new(alloc);
     for (name, text) in elements {
-        list.push(Element {
-            name: Name::new(alloc, name.as_bytes())?,
-            ty: parse_type(alloc, text.as_bytes())?,
-            text: Name::new(alloc, text.as_bytes())?,
-            comment: Name::new(alloc, b"")?,
-        })?;
+        list.push(element(alloc, name, text)?)?;
     }
-    let entry = Entry {
-        class: 3,
+    Ok(Entry {
+        class,
         name: Name::new(alloc, b"X")?,
         comment: Name::new(alloc, b"")?,
         elements: list,
-    };
+    })
+}
+
+fn element(alloc: Global, name: &str, text: &str) -> Result<Element, AllocError> {
+    let name = Name::new(alloc, name.as_bytes())?;
+    let text = Name::new(alloc, text.as_bytes())?;
+    let comment = Name::new(alloc, b"")?;
+    Element::new(alloc, name, text, comment)
+}
+
+/// The plan of a structure of these elements.
+fn plan(alloc: Global, elements: &[(&str, &str)]) -> Result<Option<Plan>, AllocError> {
+    let entry = entry(alloc, 3, elements)?;
     if entry.elements.len() > 4096 {
         return Ok(None);
     }

@@ -6,15 +6,13 @@ use record_values::{NumList, PairList, TextList, Value, ValueList, same_values};
 use scalar_types::Order;
 use std::alloc::{AllocError, Global};
 use std::test::Fail;
-use type_text::{Link, Name, parse_type};
+use type_text::{Link, Name};
 
 fn element(alloc: Global, name: &str, text: &str) -> Result<Element, AllocError> {
-    Ok(Element {
-        name: Name::new(alloc, name.as_bytes())?,
-        ty: parse_type(alloc, text.as_bytes())?,
-        text: Name::new(alloc, text.as_bytes())?,
-        comment: Name::new(alloc, b"")?,
-    })
+    let name = Name::new(alloc, name.as_bytes())?;
+    let text = Name::new(alloc, text.as_bytes())?;
+    let comment = Name::new(alloc, b"")?;
+    Element::new(alloc, name, text, comment)
 }
 
 /// The plan of a structure of these elements, each a name and a type text.

@@ -6,7 +6,7 @@ use record_values::{NumList, PairList, TextList, Value, ValueList};
 use scalar_types::Order;
 use std::alloc::{AllocError, Global};
 use std::test::Fail;
-use type_text::{Link, Name, parse_type};
+use type_text::{Link, Name};
 
 /// A value as a table holds it.
 #[derive(Clone, Copy)]
@@ -233,12 +233,10 @@ fn values(alloc: Global, rows: &[Row]) -> Result<ValueList, AllocError> {
 }
 
 fn element(alloc: Global, name: &str, text: &str) -> Result<Element, AllocError> {
-    Ok(Element {
-        name: Name::new(alloc, name.as_bytes())?,
-        ty: parse_type(alloc, text.as_bytes())?,
-        text: Name::new(alloc, text.as_bytes())?,
-        comment: Name::new(alloc, b"")?,
-    })
+    let name = Name::new(alloc, name.as_bytes())?;
+    let text = Name::new(alloc, text.as_bytes())?;
+    let comment = Name::new(alloc, b"")?;
+    Element::new(alloc, name, text, comment)
 }
 
 fn plan(alloc: Global, types: &[(&str, &str)]) -> Result<Option<Plan>, AllocError> {
