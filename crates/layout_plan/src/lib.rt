@@ -26,3 +26,5 @@ pub use spelled::capped_count;
 
 #[cfg(test)]
 mod tests;
+#[cfg(test)]
+mod tests_of_plans;
