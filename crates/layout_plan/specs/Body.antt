@@ -5,17 +5,13 @@ use Rattle.scalar_types.specs.declared.Width.TheVariants.{One}
 use Rattle.scalar_types.specs.Number.{size_of}
 use Rattle.record_values.specs.declared.values.Value.{Value}
 use Rattle.record_values.specs.declared.values.Value.TheVariants as value
+pub use Rattle.record_values.specs.Values.{number_of}
 use Rattle.record_values.specs.Spelling.{IsNumber, IsPair, IsText, IsLink, AreItems}
 use Rattle.layout_plan.specs.declared.fields.Form.{Form}
 use Rattle.layout_plan.specs.declared.fields.Form.TheVariants.{Number, Pair, Text, Link}
 use Rattle.layout_plan.specs.declared.fields.Count.{Count}
 use Rattle.layout_plan.specs.declared.fields.Count.TheVariants.{Fixed, Of}
 use Rattle.layout_plan.specs.declared.fields.Field.{Field}
-
--- the number that a value is, where it is a single one
-abbrev pub number_of : Value → ℕ
-number_of (value.Num n) = n
-number_of v = 0
 
 -- the items along one dimension, by the numbers of the record's fields
 abbrev pub extent_of : List ℕ → Count → ℕ

@@ -1,13 +1,12 @@
 //! The values of a whole body.
 
 ghost use Rattle.std.specs.Prelude.{◌≡◌, ◌≤◌, length};
-ghost use Rattle.layout_plan.specs.Body.{number_of};
 ghost use Rattle.record_reader.specs.ReadBody.{Reads, stop_of};
 
 use crate::cursor::{Cursor, Stop};
 use crate::fields::field_value;
 use layout_plan::{BodyFault, BodyReason, Plan};
-use record_values::{NumList, Value, ValueList};
+use record_values::{NumList, ValueList};
 use scalar_types::Order;
 use std::alloc::{AllocError, Global};
 use thiserror::Error;
@@ -51,7 +50,7 @@ pub fn read_body(
     for (i, field) in fields.iter().enumerate() {
         match field_value(alloc, order, field, numbers.as_slice(), &mut cursor) {
             Ok(value) => {
-                numbers.push(number_of(&value))?;
+                numbers.push(value.number())?;
                 values.push(value)?;
             }
             Err(stop) => return Err(stop_at(i, stop)),
@@ -66,16 +65,6 @@ pub fn read_body(
 
 /// The bytes that a producer may write after the listed fields.
 const TAIL_SIZE: usize = 4;
-
-/// The number that a value is, or 0 where it is none.
-fn number_of(value: &Value) -> u64
-    ensures { result ≡ number_of value.now }
-{
-    match value {
-        Value::Num(number) => *number,
-        _ => 0,
-    }
-}
 
 /// The error of a stop at a field.
 fn stop_at(field: usize, stop: Stop) -> BodyError

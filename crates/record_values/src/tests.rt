@@ -41,6 +41,8 @@ fn values_of_each_form_are_compared(rt: HostRuntime) -> Result<(), Fail> {
     assert_eq!(rt; list.len(), 8);
     assert!(rt; same_values(list.as_slice(), list.clone()?.as_slice()));
     for (i, value) in list.as_slice().iter().enumerate() {
+        let number = if i == 0 { 1 } else { 0 };
+        assert_eq!(rt; value.number(), number, "value {i}");
         for (k, another) in other.as_slice().iter().enumerate() {
             assert!(rt; *value != *another, "values {i} and {k}");
         }

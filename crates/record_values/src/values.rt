@@ -33,6 +33,20 @@ pub enum Value {
     Link(Link),
 }
 
+impl Value {
+    ghost use Rattle.record_values.specs.Values.{number_of};
+
+    /// The number that the value is, where it is a single one, else 0. Takes no memory.
+    pub fn number(&self) -> u64
+        ensures { result ≡ number_of self.now }
+    {
+        match self {
+            Value::Num(number) => *number,
+            _ => 0,
+        }
+    }
+}
+
 /// Whether the lists have equal values in the same order. Takes no memory.
 pub fn same_values(a: &[Value], b: &[Value]) -> bool
     ensures { IsTrue result ↔ (a.now ≡ b.now) }

@@ -65,17 +65,8 @@ fn number_at(values: &[Value], k: u32) -> u64
     ensures { result ≡ slice_index (map number_of values.now) k }
 {
     match values.get(k as usize) {
-        Some(value) => number(value),
+        Some(value) => value.number(),
         None => 0,
-    }
-}
-
-fn number(value: &Value) -> u64
-    ensures { result ≡ number_of value.now }
-{
-    match value {
-        Value::Num(n) => *n,
-        _ => 0,
     }
 }
 
