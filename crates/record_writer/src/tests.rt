@@ -278,10 +278,10 @@ fn bodies_are_written_in_both_orders(rt: HostRuntime) -> Result<(), Fail> {
         let values = values(alloc, rows)?;
         let length = body_length(&plan, values.as_slice());
         assert_eq!(rt; length, Some(little.len() as u64));
-        let written = body(alloc, &plan, Order::Little, values.as_slice())?.ok_or("do not fit")?;
-        assert_eq!(rt; written.as_slice(), *little);
-        let written = body(alloc, &plan, Order::Big, values.as_slice())?.ok_or("do not fit")?;
-        assert_eq!(rt; written.as_slice(), *big);
+        for (order, want) in [(Order::Little, little), (Order::Big, big)] {
+            let written = body(alloc, &plan, order, values.as_slice())?.ok_or("do not fit")?;
+            assert_eq!(rt; written.as_slice(), *want);
+        }
     }
     Ok(())
 }
