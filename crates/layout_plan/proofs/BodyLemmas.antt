@@ -24,7 +24,7 @@ use Rattle.layout_plan.specs.Reading.{Found, and_then, found_map, number_in, pai
 use Rattle.layout_plan.specs.Exact.{IsExact}
 use Rattle.layout_plan.proofs.ExactLemmas.{Ok-same, and_then-Ok, exact-as, found_map-exact, and_then-exact, Follows, nothing-exact, number_in-exact, pair_in-exact, text_in-exact, link_in-exact, items_in-exact}
 
-single_in-exact : (order : Order) (form : Form) → IsExact (single_in order form) (IsSingle order form)
+pub single_in-exact : (order : Order) (form : Form) → IsExact (single_in order form) (IsSingle order form)
 single_in-exact order (Number width) =
     found_map-exact value.Num (number_in order width) (IsNumber order width) (IsSingle order (Number width)) (number_in-exact order width) (λ n front r. r) from
   where
@@ -55,7 +55,7 @@ wide-exact : (order : Order) (width : Width) (n : ℕ) (S : Value → List ℕ �
 wide-exact order width n S to from =
     found_map-exact value.Nums (items_in (number_in order width) n) (AreCounted (IsNumber order width) n) S (items_in-exact (number_in order width) (IsNumber order width) (number_in-exact order width) n) to from
 
-listed_in-exact : (order : Order) (form : Form) (n : ℕ) → IsExact (listed_in order form n) (IsListed order form n)
+pub listed_in-exact : (order : Order) (form : Form) (n : ℕ) → IsExact (listed_in order form n) (IsListed order form n)
 listed_in-exact order (Number One) n =
     found_map-exact value.Bytes (items_in (number_in order One) n) (AreCounted (IsNumber order One) n) (IsListed order (Number One) n) (items_in-exact (number_in order One) (IsNumber order One) (number_in-exact order One) n) (λ xs front r. r) from
   where
@@ -96,7 +96,7 @@ listed_in-exact order Link n =
     from (value.Link link) front s = (link, refl, s)
     from v front s = absurd s
 
-field_in-exact : (order : Order) (numbers : List ℕ) (form : Form) (counts : List Count) → IsExact (field_in order numbers form counts) (IsField order numbers form counts)
+pub field_in-exact : (order : Order) (numbers : List ℕ) (form : Form) (counts : List Count) → IsExact (field_in order numbers form counts) (IsField order numbers form counts)
 field_in-exact order numbers form [] = single_in-exact order form
 field_in-exact order numbers form (c ∷ cs) = listed_in-exact order form (item_count numbers (c ∷ cs))
 

@@ -1,14 +1,16 @@
 -- What small bodies hold by the definitions.
-use Rattle.std.proofs.Common.{◌≡◌, List, [], ◌∷◌, Ok, Err, refl}
+use Rattle.std.proofs.Common.{◌≡◌, ℕ, List, [], ◌∷◌, Ok, Err, refl}
 use Rattle.scalar_types.specs.declared.Order.TheVariants.{Big, Little}
 use Rattle.scalar_types.specs.declared.Width.TheVariants.{One, Two, Four, Eight}
 use Rattle.record_values.specs.declared.values.Value.TheVariants as value
 use Rattle.layout_plan.specs.declared.fields.Form.{Form}
-use Rattle.layout_plan.specs.declared.fields.Form.TheVariants.{Number, Pair, Text}
+use Rattle.layout_plan.specs.declared.fields.Form.TheVariants.{Number, Pair, Text, Link}
 use Rattle.layout_plan.specs.declared.fields.Count.TheVariants.{Of}
 use Rattle.layout_plan.specs.declared.fields.Field.{Field}
 use Rattle.layout_plan.specs.declared.faults.BodyReason.TheVariants.{BodyShort, BodyLong, BadText}
+use Rattle.layout_plan.specs.declared.marks.Mark.{Mark}
 use Rattle.layout_plan.specs.Reading.{body_in, items_in}
+use Rattle.layout_plan.specs.Marks.{is_varied, numbers_where, marks_from, first_mark, mark_of, place_of}
 
 single : Form → List Field
 single form = record { form = form; counts = [] } ∷ []
@@ -63,3 +65,25 @@ text-closed = refl
 pair-complex : body_in Little (single (Pair Four)) (0 ∷ 0 ∷ 128 ∷ 63 ∷ 0 ∷ 0 ∷ 0 ∷ 64 ∷ []) ≡ Ok (value.Pair 0x3f80_0000 0x4000_0000 ∷ [], [])
 unfolding body_in single
 pair-complex = refl
+
+-- a number of two bytes, a text, a number of four, a link, and a list that counts by the first field
+five : List Field
+five =
+    record { form = Number Two; counts = [] } ∷ record { form = Text; counts = [] } ∷ record { form = Number Four; counts = [] } ∷ record { form = Link; counts = [] } ∷ record { form = Number Two; counts = Of 0 ∷ [] } ∷ []
+
+mark : ℕ → ℕ → Mark
+mark varied skip = record { varied = varied; skip = skip }
+
+-- where these fields stand, and where they end
+five-marks : marks_from first_mark five ≡ mark 0 0 ∷ mark 0 2 ∷ mark 1 0 ∷ mark 1 4 ∷ mark 1 10 ∷ mark 2 0 ∷ []
+unfolding five mark
+five-marks = refl
+
+five-varied : numbers_where is_varied 0 five ≡ 1 ∷ 4 ∷ []
+unfolding five
+five-varied = refl
+
+-- the link stands four bytes after the text, which ends at 9
+five-link : place_of (9 ∷ 23 ∷ []) (mark_of five 3) ≡ 13
+unfolding five
+five-link = refl

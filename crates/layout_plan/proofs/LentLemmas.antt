@@ -1,7 +1,8 @@
 -- One field of a body, found by a walk over the fields before it.
-use Rattle.std.proofs.Common.{◌≡◌, ℕ, zero, suc, ◌+◌, ◌-◌, ◌<◌, ◌≤◌, List, [], ◌∷◌, ◌++◌, length, take, drop, get_or, map, Result, Ok, Err, Some, IsOk, All, refl, sym, ap, ◌∙◌, subst, arith, append_assoc, append-nil, inl, inr}
+use Rattle.std.proofs.Common.{◌≡◌, ℕ, zero, suc, ◌+◌, ◌-◌, ◌<◌, ◌≤◌, List, [], ◌∷◌, ◌++◌, length, take, drop, get_or, map, Result, Ok, Err, Some, IsOk, All, refl, sym, ap, ◌∙◌, subst, arith, append_assoc, inl, inr}
 use Rattle.std.specs.Prelude.{slice_get}
-use Rattle.std.proofs.lemmas.List.{length-append, length-drop, length-take-le, drop-drop, take_more, drop_more, take_at, drop_at, take-append-drop, length-map, map-append}
+use Rattle.std.proofs.lemmas.Option.{same_Some}
+use Rattle.std.proofs.lemmas.List.{length-append, length-drop, take-take, length-take-le, drop-drop, take_at, drop_at, take-append-drop, length-map, map-append}
 use Rattle.scalar_types.specs.declared.Order.{Order}
 use Rattle.scalar_types.specs.declared.Width.{Width}
 use Rattle.record_values.specs.declared.values.Value.{Value}
@@ -12,96 +13,18 @@ use Rattle.layout_plan.specs.declared.fields.Count.TheVariants.{Fixed, Of}
 use Rattle.layout_plan.specs.declared.fields.Field.{Field}
 use Rattle.layout_plan.specs.declared.faults.BodyReason.{BodyReason}
 use Rattle.layout_plan.specs.declared.faults.BodyFault.{BodyFault}
-use Rattle.layout_plan.specs.declared.spelled.Spelled.{Spelled}
 use Rattle.layout_plan.specs.declared.walking.Walked.{Walked}
 use Rattle.layout_plan.specs.declared.lent.Placed.{Placed}
 use Rattle.layout_plan.specs.Layout.{AreSound, IsEarlier}
 use Rattle.layout_plan.specs.Body.{number_of, AreFields, IsBody, HasBody}
-use Rattle.layout_plan.specs.Reading.{Found, and_then, found_map, number_in, text_in, field_in, at_field, fields_in, ended, body_in}
-use Rattle.layout_plan.specs.Spelled.{IsSpelled, Tells}
-use Rattle.layout_plan.specs.Walking.{IsWalked, TellsWalk}
+use Rattle.layout_plan.specs.Reading.{number_in, text_in, field_in, fields_in, ended, body_in}
+use Rattle.layout_plan.specs.Walking.{number_at, IsReached, TellsReached}
 use Rattle.layout_plan.specs.Lent.{HasNumberAt, HasTextAt, IsNumberField, IsTextField, IsPlaced}
 use Rattle.record_values.specs.Spelling.{IsText}
 use Rattle.layout_plan.proofs.ExactLemmas.{Ok-same, and_then-Ok, found_map-Ok, text_in-exact}
-use Rattle.layout_plan.proofs.BodyLemmas.{fields_in-exact, body_in-again, ended-tail, IsField-earlier}
-use Rattle.layout_plan.proofs.WalkLemmas.{IsWalked-all}
-
--- the reading of the first k fields, and of the others after them
-record IsSplit (order : Order) (numbers : List ℕ) (fields : List Field) (k : ℕ) (bytes : List ℕ) (values : List Value) (rest : List ℕ) : Type 0 where
-  mid : List ℕ
-  first : fields_in order numbers (take k fields) bytes ≡ Ok (take k values, mid)
-  others : fields_in order (numbers ++ map number_of (take k values)) (drop k fields) mid ≡ Ok (drop k values, rest)
-
-at_field-Ok : {X : Type 0} (i : ℕ) (r : Found X) (x : X × List ℕ) → at_field i r ≡ Ok x → r ≡ Ok x
-at_field-Ok i (Ok y) x e = ap Ok (Ok-same {E = BodyFault} y x e)
-at_field-Ok i (Err reason) x e = cc
-
-fields_in-split : (order : Order) (numbers : List ℕ) (fields : List Field) (k : ℕ) (bytes : List ℕ) (values : List Value) (rest : List ℕ) → k ≤ length fields → fields_in order numbers fields bytes ≡ Ok (values, rest) → IsSplit order numbers fields k bytes values rest
-fields_in-split order numbers fields zero bytes values rest le e = record {
-  mid = bytes;
-  first = refl;
-  others = ap (λ ns. fields_in order ns fields bytes) (append-nil numbers) ∙ e;
-}
-fields_in-split order numbers [] (suc k) bytes values rest le e = absurd (omega arith)
-fields_in-split order numbers (f ∷ fs) (suc k) bytes values rest le e =
-    let x = and_then-Ok (at_field (length numbers) (field_in order numbers f.form f.counts bytes)) (λ (v : Value × List ℕ). found_map (λ vs. v.0 ∷ vs) (fields_in order (numbers ++ number_of v.0 ∷ []) fs v.1)) (values, rest) e in
-    let y = found_map-Ok (λ vs. x.0.0 ∷ vs) (fields_in order (numbers ++ number_of x.0.0 ∷ []) fs x.0.1) (values, rest) x.2 in
-    let s = fields_in-split order (numbers ++ number_of x.0.0 ∷ []) fs k x.0.1 y.0.0 y.0.1 (omega arith) y.1 in
-    subst (λ (z : List Value × List ℕ). IsSplit order numbers (f ∷ fs) (suc k) bytes z.0 z.1) y.2 (record {
-      mid = s.mid;
-      first = ap (λ r. and_then r (λ (v : Value × List ℕ). found_map (λ vs. v.0 ∷ vs) (fields_in order (numbers ++ number_of v.0 ∷ []) (take k fs) v.1))) x.1 ∙ ap (found_map (λ vs. x.0.0 ∷ vs)) s.first;
-      others = ap (λ ns. fields_in order ns (drop k fs) s.mid) (sym (append_assoc numbers (number_of x.0.0 ∷ []) (map number_of (take k y.0.0)))) ∙ s.others;
-    })
-
--- the reading of the first of some fields
-fields_in-first : (order : Order) (numbers : List ℕ) (f : Field) (fs : List Field) (bytes : List ℕ) (values : List Value) (rest : List ℕ) → fields_in order numbers (f ∷ fs) bytes ≡ Ok (values, rest) → (x : Value × List ℕ) × (field_in order numbers f.form f.counts bytes ≡ Ok x) × ((vs : List Value) × (values ≡ x.0 ∷ vs))
-fields_in-first order numbers f fs bytes values rest e =
-    let x = and_then-Ok (at_field (length numbers) (field_in order numbers f.form f.counts bytes)) (λ (v : Value × List ℕ). found_map (λ vs. v.0 ∷ vs) (fields_in order (numbers ++ number_of v.0 ∷ []) fs v.1)) (values, rest) e in
-    let y = found_map-Ok (λ vs. x.0.0 ∷ vs) (fields_in order (numbers ++ number_of x.0.0 ∷ []) fs x.0.1) (values, rest) x.2 in
-    (x.0, at_field-Ok (length numbers) (field_in order numbers f.form f.counts bytes) x.0 x.1, (y.0.0, sym (ap (λ (z : List Value × List ℕ). z.0) y.2)))
-
--- the element at a place
-record IsElement {X : Type 0} (xs : List X) (k : ℕ) (x : X) : Type 0 where
-  from : drop k xs ≡ x ∷ drop (k + 1) xs
-  get : slice_get xs k ≡ Some x
-  through : take (k + 1) xs ≡ take k xs ++ x ∷ []
-
-element-at : {X : Type 0} (xs : List X) (k : ℕ) (x : X) → k < length xs → x ≡ get_or xs k x → IsElement xs k x
-element-at xs k x lt is = record {
-  from = drop_more xs k x lt ∙ ap (λ y. y ∷ drop (k + 1) xs) (sym is);
-  get = slice_get-within xs k x lt ∙ ap Some (sym is);
-  through = take_more xs k x lt ∙ ap (λ y. take k xs ++ y ∷ []) (sym is);
-}
-  where
-    slice_get-within : {Y : Type 0} (ys : List Y) (j : ℕ) (d : Y) → j < length ys → slice_get ys j ≡ Some (get_or ys j d)
-    slice_get-within [] j d lt = absurd (omega arith)
-    slice_get-within (y ∷ ys) zero d lt = refl
-    slice_get-within (y ∷ ys) (suc j) d lt = slice_get-within ys j d (omega arith)
-
-slice_get-drop : {X : Type 0} (xs : List X) (k : ℕ) (x : X) (ys : List X) → drop k xs ≡ x ∷ ys → (slice_get xs k ≡ Some x) × (take (k + 1) xs ≡ take k xs ++ x ∷ [])
-slice_get-drop [] zero x ys e = cc
-slice_get-drop [] (suc k) x ys e = cc
-slice_get-drop (y ∷ xs) zero x ys e = let same : y ≡ x = cc in (ap Some same, ap (λ y. y ∷ []) same)
-slice_get-drop (y ∷ xs) (suc k) x ys e =
-    let d = slice_get-drop xs k x ys e in
-    let more : suc k + 1 ≡ suc (k + 1) = omega arith in
-    (d.0, ap (λ n. take n (y ∷ xs)) more ∙ ap (λ ys. y ∷ ys) d.1)
-
--- one more field at the end
-fields_in-push : (order : Order) (numbers : List ℕ) (fs : List Field) (f : Field) (bytes mid end : List ℕ) (vs : List Value) (v : Value) → fields_in order numbers fs bytes ≡ Ok (vs, mid) → field_in order (numbers ++ map number_of vs) f.form f.counts mid ≡ Ok (v, end) → fields_in order numbers (fs ++ f ∷ []) bytes ≡ Ok (vs ++ v ∷ [], end)
-fields_in-push order numbers [] f bytes mid end vs v e h = subst P (Ok-same {E = BodyFault} ([], bytes) (vs, mid) e) here h
-  where
-    P : List Value × List ℕ → Type 0
-    P z = field_in order (numbers ++ map number_of z.0) f.form f.counts z.1 ≡ Ok (v, end) → fields_in order numbers (f ∷ []) bytes ≡ Ok (z.0 ++ v ∷ [], end)
-
-    here : P ([], bytes)
-    here h = ap (λ r. and_then (at_field (length numbers) r) (λ (v : Value × List ℕ). found_map (λ vs. v.0 ∷ vs) (fields_in order (numbers ++ number_of v.0 ∷ []) [] v.1))) (ap (λ ns. field_in order ns f.form f.counts bytes) (sym (append-nil numbers)) ∙ h)
-fields_in-push order numbers (g ∷ fs) f bytes mid end vs v e h =
-    let x = and_then-Ok (at_field (length numbers) (field_in order numbers g.form g.counts bytes)) (λ (v : Value × List ℕ). found_map (λ vs. v.0 ∷ vs) (fields_in order (numbers ++ number_of v.0 ∷ []) fs v.1)) (vs, mid) e in
-    let y = found_map-Ok (λ vs. x.0.0 ∷ vs) (fields_in order (numbers ++ number_of x.0.0 ∷ []) fs x.0.1) (vs, mid) x.2 in
-    let P : List Value × List ℕ → Type 0 = λ z. field_in order (numbers ++ map number_of z.0) f.form f.counts z.1 ≡ Ok (v, end) → fields_in order numbers (g ∷ (fs ++ f ∷ [])) bytes ≡ Ok (z.0 ++ v ∷ [], end) in
-    let here : P (x.0.0 ∷ y.0.0, y.0.1) = λ h. ap (λ r. and_then r (λ (v : Value × List ℕ). found_map (λ vs. v.0 ∷ vs) (fields_in order (numbers ++ number_of v.0 ∷ []) (fs ++ f ∷ []) v.1))) x.1 ∙ ap (found_map (λ vs. x.0.0 ∷ vs)) (fields_in-push order (numbers ++ number_of x.0.0 ∷ []) fs f x.0.1 y.0.1 end y.0.0 v y.1 (ap (λ ns. field_in order ns f.form f.counts y.0.1) (append_assoc numbers (number_of x.0.0 ∷ []) (map number_of y.0.0)) ∙ h)) in
-    subst P y.2 here h
+use Rattle.layout_plan.proofs.BodyLemmas.{field_in-exact, fields_in-exact, body_in-again, ended-tail, IsField-earlier}
+use Rattle.layout_plan.proofs.ReadingLemmas.{element-within, fields_in-split, fields_in-push, field-between}
+use Rattle.layout_plan.proofs.CounterLemmas.{slice_get-take, number_at-value}
 
 -- the numbers of more fields
 AreFields-more : (order : Order) (numbers more : List ℕ) (i : ℕ) (fields : List Field) (values : List Value) (bytes : List ℕ) → AreSound i fields → i + length fields ≤ length numbers + 1 → AreFields order numbers fields values bytes → AreFields order (numbers ++ more) fields values bytes
@@ -149,87 +72,65 @@ reads-EndsAt order fields bytes j at values sound e le =
     let whole : map number_of (take j values) ++ map number_of (drop j values) ≡ map number_of values = sym (map-append number_of (take j values) (drop j values)) ∙ ap (map number_of) (take-append-drop j values) in
     subst (λ ns. AreFields order ns (take j fields) (take j values) (take at bytes)) whole (AreFields-more order (map number_of (take j values)) (map number_of (drop j values)) 0 (take j fields) (take j values) (take at bytes) (AreSound-take 0 j fields sound) (omega (arith, size, length-map (take j values) number_of)) (subst (AreFields order (map number_of (take j values)) (take j fields) (take j values)) (front-take bytes g.0 at g.1 le) g.2))
 
--- field k, after a walk over those before it
-pub placed : (order : Order) (fields : List Field) (bytes : List ℕ) (k : ℕ) (numbers : List ℕ) (w : Walked) (f : Field) (s : Spelled) → AreSound 0 fields → HasBody order fields bytes → k < length fields → IsWalked order (take k fields) bytes (length (take k fields)) numbers w.at w.links w.zero_texts → f ≡ get_or fields k f → IsSpelled (field_in order (take k numbers) f.form f.counts (drop w.at bytes)) f.form (drop w.at bytes) s → IsPlaced order fields bytes k (record { start = w.at; length = s.length; number = s.number })
-placed order fields bytes k numbers w f s sound has lt walked is told = record {
-  value = told.value;
-  field = f;
-  numbers = take k numbers;
-  is = at_k.get;
-  here = λ values tail body. (slice_get-drop values k told.value (one values tail body).0 (one values tail body).1).0;
-  found = told.is ∙ ap (λ rest. Ok (told.value, rest)) (drop-drop s.length w.at bytes);
-  number = told.number;
-  within = fits;
-  begins = λ values tail body. reads-EndsAt order fields bytes k w.at values sound (first values tail body) walked.within;
-  ends = λ values tail body. reads-EndsAt order fields bytes (k + 1) (w.at + s.length) values sound (second values tail body) fits;
+-- the values of the fields that are reached are those of the body
+reached-values : (order : Order) (fields : List Field) (bytes : List ℕ) (k at zero_texts : ℕ) (values : List Value) (tail : List ℕ) → AreSound 0 fields → k ≤ length fields → IsReached order fields bytes k at zero_texts → IsBody order fields values tail bytes → fields_in order [] (take k fields) bytes ≡ Ok (take k values, drop at bytes)
+reached-values order fields bytes k at zero_texts values tail sound le reached body =
+    let split = fields_in-split order [] fields k bytes values tail le (body-fields order fields sound bytes values tail body) in
+    let same = Ok-same {E = BodyFault} (take k values, split.mid) (reached.values, drop at bytes) (sym split.first ∙ reached.reads) in
+    reached.reads ∙ ap (λ vs. Ok (vs, drop at bytes)) (sym (ap (λ (z : List Value × List ℕ). z.0) same))
+
+-- field k, between the fields before it and those after it
+reached-between : (order : Order) (fields : List Field) (bytes : List ℕ) (k start end : ℕ) (f : Field) (bare more : ℕ) (first : IsReached order fields bytes k start bare) → IsReached order fields bytes (k + 1) end more → slice_get fields k ≡ Some f → (v : Value) × (field_in order (map number_of first.values) f.form f.counts (drop start bytes) ≡ Ok (v, drop end bytes))
+reached-between order fields bytes k start end f bare more first second is =
+    let b = field-between order (take (k + 1) fields) k f bytes (drop start bytes) (drop end bytes) first.values second.values (slice_get-take fields k (k + 1) (omega arith) ∙ is) (ap (λ fs. fields_in order [] fs bytes) (take-take k (k + 1) fields (omega arith)) ∙ first.reads) second.reads in
+    let pushed = fields_in-push order fields k f bytes (drop start bytes) b.after first.values b.value is first.reads b.reads in
+    let same = Ok-same {E = BodyFault} (first.values ++ b.value ∷ [], b.after) (second.values, drop end bytes) (sym pushed ∙ second.reads) in
+    (b.value, b.reads ∙ ap (λ rest. Ok (b.value, rest)) (ap (λ (z : List Value × List ℕ). z.1) same))
+
+-- a field ends no earlier than it begins
+pub reached-forward : (order : Order) (fields : List Field) (bytes : List ℕ) (k start end bare more : ℕ) → k < length fields → IsReached order fields bytes k start bare → IsReached order fields bytes (k + 1) end more → start ≤ end
+reached-forward order fields bytes k start end bare more lt first second =
+    let f = element-within fields k lt in
+    let b = reached-between order fields bytes k start end f.0 bare more first second f.1 in
+    let found = (field_in-exact order (map number_of first.values) f.0.form f.0.counts).found (drop start bytes) (b.0, drop end bytes) b.1 in
+    omega (arith, first.within, second.within, length-drop start bytes, length-drop end bytes, ap length found.1 ∙ length-append found.0 (drop end bytes))
+
+-- field k, where it is reached and where the next one is
+pub placed : (order : Order) (fields : List Field) (bytes : List ℕ) (k start end bare more : ℕ) → AreSound 0 fields → k < length fields → IsReached order fields bytes k start bare → IsReached order fields bytes (k + 1) end more → IsPlaced order fields bytes k (record { start = start; length = end - start })
+placed order fields bytes k start end bare more sound lt first second = record {
+  value = b.0;
+  field = f.0;
+  numbers = map number_of first.values;
+  is = f.1;
+  here = here;
+  found = b.1 ∙ ap (λ at. Ok (b.0, drop at bytes)) end_is;
+  within = omega (arith, end_is, second.within);
+  begins = λ values tail body. reads-EndsAt order fields bytes k start values sound (reached-values order fields bytes k start bare values tail sound (omega arith) first body) first.within;
+  ends = λ values tail body. subst (λ at. AreFields order (map number_of values) (take (k + 1) fields) (take (k + 1) values) (take at bytes)) end_is (reads-EndsAt order fields bytes (k + 1) end values sound (reached-values order fields bytes (k + 1) end more values tail sound (omega arith) second body) second.within);
 }
   where
-    at_k : IsElement fields k f
-    at_k = element-at fields k f lt is
+    f : (f : Field) × (slice_get fields k ≡ Some f)
+    f = element-within fields k lt
 
-    fits : w.at + s.length ≤ length bytes
-    fits = omega (arith, told.within, walked.within, length-drop w.at bytes)
+    b : (v : Value) × (field_in order (map number_of first.values) f.0.form f.0.counts (drop start bytes) ≡ Ok (v, drop end bytes))
+    b = reached-between order fields bytes k start end f.0 bare more first second f.1
 
-    numbers_are : take k numbers ≡ map number_of walked.values
-    numbers_are = ap (λ n. take n numbers) (sym (length-take-le k fields (omega arith))) ∙ walked.numbers_are
+    end_is : end ≡ start + (end - start)
+    end_is = omega (arith, reached-forward order fields bytes k start end bare more lt first second)
 
-    first_walked : fields_in order [] (take k fields) bytes ≡ Ok (walked.values, drop w.at bytes)
-    first_walked = IsWalked-all order (take k fields) bytes (length (take k fields)) numbers w.at w.links w.zero_texts walked (omega arith)
+    here : (values : List Value) (tail : List ℕ) → IsBody order fields values tail bytes → slice_get values k ≡ Some b.0
+    here values tail body =
+        let w = field-between order fields k f.0 bytes (drop start bytes) tail first.values values f.1 first.reads (body-fields order fields sound bytes values tail body) in
+        w.here ∙ ap (λ (z : Value × List ℕ). Some z.0) (Ok-same {E = BodyReason} (w.value, w.after) (b.0, drop end bytes) (sym w.reads ∙ b.1))
 
-    split : (values : List Value) (tail : List ℕ) → IsBody order fields values tail bytes → IsSplit order [] fields k bytes values tail
-    split values tail body = fields_in-split order [] fields k bytes values tail (omega arith) (body-fields order fields sound bytes values tail body)
-
-    same : (values : List Value) (tail : List ℕ) (body : IsBody order fields values tail bytes) → ◌≡◌ {A = List Value × List ℕ} (take k values, (split values tail body).mid) (walked.values, drop w.at bytes)
-    same values tail body = Ok-same {E = BodyFault} (take k values, (split values tail body).mid) (walked.values, drop w.at bytes) (sym (split values tail body).first ∙ first_walked)
-
-    first : (values : List Value) (tail : List ℕ) → IsBody order fields values tail bytes → fields_in order [] (take k fields) bytes ≡ Ok (take k values, drop w.at bytes)
-    first values tail body = first_walked ∙ ap (λ vs. Ok (vs, drop w.at bytes)) (sym (ap (λ (z : List Value × List ℕ). z.0) (same values tail body)))
-
-    one : (values : List Value) (tail : List ℕ) → IsBody order fields values tail bytes → (vs : List Value) × (drop k values ≡ told.value ∷ vs)
-    one values tail body =
-        let others = ap (λ (z : List Value × List ℕ). fields_in order (map number_of z.0) (f ∷ drop (k + 1) fields) z.1) (sym (same values tail body)) ∙ ap (λ fs. fields_in order (map number_of (take k values)) fs (split values tail body).mid) (sym at_k.from) ∙ (split values tail body).others in
-        let x = fields_in-first order (map number_of walked.values) f (drop (k + 1) fields) (drop w.at bytes) (drop k values) tail others in
-        let found = ap (λ ns. field_in order ns f.form f.counts (drop w.at bytes)) (sym numbers_are) ∙ told.is in
-        let value = ap (λ (z : Value × List ℕ). z.0) (Ok-same {E = BodyReason} x.0 (told.value, drop s.length (drop w.at bytes)) (sym x.1 ∙ found)) in
-        (x.2.0, x.2.1 ∙ ap (λ v. v ∷ x.2.0) value)
-
-    second : (values : List Value) (tail : List ℕ) → IsBody order fields values tail bytes → fields_in order [] (take (k + 1) fields) bytes ≡ Ok (take (k + 1) values, drop (w.at + s.length) bytes)
-    second values tail body =
-        let found = ap (λ ns. field_in order ns f.form f.counts (drop w.at bytes)) (sym numbers_are) ∙ told.is in
-        let pushed = fields_in-push order [] (take k fields) f bytes (drop w.at bytes) (drop s.length (drop w.at bytes)) walked.values told.value first_walked found in
-        let front = ap (λ (z : List Value × List ℕ). z.0) (same values tail body) in
-        let o = one values tail body in
-        ap (λ fs. fields_in order [] fs bytes) at_k.through
-        ∙ pushed
-        ∙ (λ i. Ok (sym front i ++ told.value ∷ [], drop-drop s.length w.at bytes i))
-        ∙ ap (λ vs. Ok (vs, drop (w.at + s.length) bytes)) (sym (slice_get-drop values k told.value o.0 o.1).1)
-
--- a walk over the first fields finds them
-pub walk-finds : (order : Order) (fields : List Field) (bytes : List ℕ) (k : ℕ) (numbers : List ℕ) (r : Result Walked BodyFault) → AreSound 0 fields → HasBody order fields bytes → k ≤ length fields → TellsWalk order (take k fields) bytes numbers r → IsOk r
-walk-finds order fields bytes k numbers (Ok w) sound has le told = refl
-walk-finds order fields bytes k numbers (Err fault) sound (values, tail, body) le told =
-    absurd (apart (sym told ∙ (fields_in-split order [] fields k bytes values tail le (body-fields order fields sound bytes values tail body)).first))
+-- a walk over a body's fields finds them
+pub reached-found : (order : Order) (fields : List Field) (bytes : List ℕ) (k known : ℕ) (ends : List ℕ) (r : Result Walked BodyFault) → AreSound 0 fields → HasBody order fields bytes → TellsReached order fields bytes k known ends r → IsOk r
+reached-found order fields bytes k known ends (Ok w) sound has told = refl
+reached-found order fields bytes k known ends (Err fault) sound (values, tail, body) told =
+    absurd (apart (sym told ∙ body-fields order fields sound bytes values tail body))
   where
-    apart : {x : List Value × List ℕ} → ◌≡◌ {A = Result (List Value × List ℕ) BodyFault} (Err fault) (Ok x) → ⊥
+    apart : ◌≡◌ {A = Result (List Value × List ℕ) BodyFault} (Err fault) (Ok (values, tail)) → ⊥
     apart e = cc
-
--- a field of a body is found
-pub field-finds : (order : Order) (fields : List Field) (bytes : List ℕ) (k : ℕ) (numbers : List ℕ) (w : Walked) (f : Field) (r : Result Spelled BodyReason) → AreSound 0 fields → HasBody order fields bytes → k < length fields → IsWalked order (take k fields) bytes (length (take k fields)) numbers w.at w.links w.zero_texts → f ≡ get_or fields k f → Tells (field_in order (take k numbers) f.form f.counts (drop w.at bytes)) f.form (drop w.at bytes) r → IsOk r
-field-finds order fields bytes k numbers w f (Ok s) sound has lt walked is told = refl
-field-finds order fields bytes k numbers w f (Err reason) sound (values, tail, body) lt walked is told =
-    let split = fields_in-split order [] fields k bytes values tail (omega arith) (body-fields order fields sound bytes values tail body) in
-    let walk = IsWalked-all order (take k fields) bytes (length (take k fields)) numbers w.at w.links w.zero_texts walked (omega arith) in
-    let same : ◌≡◌ {A = List Value × List ℕ} (take k values, split.mid) (walked.values, drop w.at bytes) = Ok-same {E = BodyFault} (take k values, split.mid) (walked.values, drop w.at bytes) (sym split.first ∙ walk) in
-    let others = ap (λ (z : List Value × List ℕ). fields_in order (map number_of z.0) (f ∷ drop (k + 1) fields) z.1) (sym same) ∙ ap (λ fs. fields_in order (map number_of (take k values)) fs split.mid) (sym (element-at fields k f lt is).from) ∙ split.others in
-    let x = fields_in-first order (map number_of walked.values) f (drop (k + 1) fields) (drop w.at bytes) (drop k values) tail others in
-    let numbers_are = ap (λ n. take n numbers) (sym (length-take-le k fields (omega arith))) ∙ walked.numbers_are in
-    absurd (apart (sym told ∙ ap (λ ns. field_in order ns f.form f.counts (drop w.at bytes)) numbers_are ∙ x.1))
-  where
-    apart : {x : Value × List ℕ} → ◌≡◌ {A = Found Value} (Err reason) (Ok x) → ⊥
-    apart e = cc
-
-Some-same : {X : Type 0} (x y : X) → Some x ≡ Some y → x ≡ y
-Some-same x y e = cc
 
 -- a number without dimension
 number_in-here : (order : Order) (numbers : List ℕ) (width : Width) (f : Field) (bytes rest : List ℕ) (v : Value) → f ≡ record { form = Number width; counts = [] } → field_in order numbers f.form f.counts bytes ≡ Ok (v, rest) → v ≡ value.Num (number_of v)
@@ -237,11 +138,13 @@ number_in-here order numbers width f bytes rest v is e =
     let m = found_map-Ok value.Num (number_in order width bytes) (v, rest) (ap (λ (f : Field). field_in order numbers f.form f.counts bytes) (sym is) ∙ e) in
     subst (λ (z : Value × List ℕ). z.0 ≡ value.Num (number_of z.0)) m.2 refl
 
-pub number-here : (order : Order) (fields : List Field) (bytes : List ℕ) (k : ℕ) (p : Placed) → IsNumberField fields k → IsPlaced order fields bytes k p → HasNumberAt order fields bytes k p.number
-number-here order fields bytes k p (width, is) placed values tail body =
-    let same = Some-same placed.field (record { form = Number width; counts = [] }) (sym placed.is ∙ is) in
+pub number-here : (order : Order) (fields : List Field) (bytes : List ℕ) (k n : ℕ) (f : Field) (p : Placed) → IsNumberField fields k → IsPlaced order fields bytes k p → slice_get fields k ≡ Some f → n ≡ number_at order f.form f.counts (drop p.start bytes) → HasNumberAt order fields bytes k n
+number-here order fields bytes k n f p (width, is) placed at number_is values tail body =
+    let same = same_Some placed.field (record { form = Number width; counts = [] }) (sym placed.is ∙ is) in
+    let this = same_Some placed.field f (sym placed.is ∙ at) in
+    let number = number_at-value order placed.numbers placed.field.form placed.field.counts (drop p.start bytes) placed.value (drop (p.start + p.length) bytes) placed.found ∙ ap (λ (f : Field). number_at order f.form f.counts (drop p.start bytes)) this ∙ sym number_is in
     placed.here values tail body
-    ∙ ap Some (number_in-here order placed.numbers width placed.field (drop p.start bytes) (drop (p.start + p.length) bytes) placed.value same placed.found ∙ ap value.Num (sym placed.number))
+    ∙ ap Some (number_in-here order placed.numbers width placed.field (drop p.start bytes) (drop (p.start + p.length) bytes) placed.value same placed.found ∙ ap value.Num number)
 
 -- a text stands between its length and its closing zero byte
 text-bytes : (order : Order) (text front : List ℕ) → IsText order text front → text ≡ take (length front - 3) (drop 2 front)
@@ -266,7 +169,7 @@ text_in-here order numbers f bytes start size v is le e =
 -- a text without dimension
 pub text-here : (order : Order) (fields : List Field) (bytes : List ℕ) (k : ℕ) (p : Placed) → IsTextField fields k → IsPlaced order fields bytes k p → HasTextAt order fields bytes k (take (p.length - 3) (drop 2 (take p.length (drop p.start bytes))))
 text-here order fields bytes k p is placed values tail body =
-    let same = Some-same placed.field (record { form = Text; counts = [] }) (sym placed.is ∙ is) in
+    let same = same_Some placed.field (record { form = Text; counts = [] }) (sym placed.is ∙ is) in
     placed.here values tail body ∙ ap Some (text_in-here order placed.numbers placed.field bytes p.start p.length placed.value same placed.within placed.found)
 
 -- the slice of a spelling

@@ -6,3 +6,7 @@ pub mod WalkLemmas
 pub mod Examples
 pub mod LentLemmas
 pub mod LinkLemmas
+pub mod MarkLemmas
+pub mod ReadingLemmas
+pub mod ReachLemmas
+pub mod CounterLemmas

@@ -1,5 +1,5 @@
 -- The links of a body, by its fields.
-use Rattle.std.proofs.Common.{◌≡◌, ℕ, zero, suc, ◌+◌, ◌<◌, ◌≤◌, cond, List, [], ◌∷◌, length, take, drop, sum_by, count_by, map, Ok, Some, refl, sym, ap, ◌∙◌, subst, arith, zero-add}
+use Rattle.std.proofs.Common.{◌≡◌, ℕ, zero, suc, ◌+◌, ◌<◌, ◌≤◌, true, cond, get_or, List, [], ◌∷◌, length, take, drop, sum_by, count_by, map, Ok, Some, refl, sym, ap, ◌∙◌, subst, arith, zero-add}
 use Rattle.std.specs.Prelude.{slice_get}
 use Rattle.std.proofs.lemmas.List.{length-append, length-drop, drop-drop}
 use Rattle.std.proofs.lemmas.List.Sums.{sum_by-cons}
@@ -19,6 +19,8 @@ use Rattle.layout_plan.specs.Body.{number_of, links_of, IsSingle, IsListed, IsFi
 use Rattle.layout_plan.specs.Reading.{Found, and_then, found_map, number_in, link_in, field_in}
 use Rattle.layout_plan.specs.Lent.{IsPlaced}
 use Rattle.layout_plan.specs.Links.{links_in, HasLink, HasLinkAt, is_link_form, is_link, IsLinkField}
+use Rattle.layout_plan.specs.Marks.{numbers_where}
+use Rattle.layout_plan.proofs.MarkLemmas.{numbers_where-at}
 use Rattle.layout_plan.proofs.ExactLemmas.{Ok-same, found_map-Ok, bytes_in-enough, link_in-exact}
 
 -- a value is a link just where its field is one
@@ -44,7 +46,7 @@ field-links order numbers form [] v bytes s = single-links order form v bytes s
 field-links order numbers form (c ∷ cs) v bytes s = listed-links order form _ v bytes s
 
 -- there are as many links as link fields
-fields-links : (order : Order) (numbers : List ℕ) (fields : List Field) (values : List Value) (bytes : List ℕ) → AreFields order numbers fields values bytes → sum_by links_of values ≡ count_by is_link fields
+pub fields-links : (order : Order) (numbers : List ℕ) (fields : List Field) (values : List Value) (bytes : List ℕ) → AreFields order numbers fields values bytes → sum_by links_of values ≡ count_by is_link fields
 fields-links order numbers [] [] bytes s = refl
 fields-links order numbers [] (v ∷ vs) bytes s = absurd s
 fields-links order numbers (f ∷ fs) [] bytes s = absurd s
@@ -87,6 +89,18 @@ slice_get-below (y ∷ xs) (suc i) x e = let lt = slice_get-below xs i x e in om
 
 pub IsLinkField-below : (fields : List Field) (k i : ℕ) → IsLinkField fields k i → i < length fields
 IsLinkField-below fields k i f = slice_get-below fields i f.field f.is
+
+-- the kept number of a link is that of its field
+pub link-numbered : (fields : List Field) (k i d : ℕ) → k < count_by is_link fields → i ≡ get_or (numbers_where is_link 0 fields) k d → IsLinkField fields k i
+link-numbered fields k i d lt is =
+    let n = numbers_where-at is_link fields k i d lt is in
+    record { field = n.field; is = n.is; link = form n.field.form n.passes; before = n.before }
+  where
+    form : (form : Form) → is_link_form form ≡ true → form ≡ Link
+    form Link passes = refl
+    form (Number width) passes = cc
+    form (Pair width) passes = cc
+    form Text passes = cc
 
 -- the two numbers of a link
 pub link_in-numbers : (order : Order) (bytes : List ℕ) (class n : ℕ) → 6 ≤ length bytes → class ≡ number order (take 2 bytes) → n ≡ number order (take 4 (drop 2 bytes)) → link_in order bytes ≡ Ok (record { class = class; instance = n }, drop 6 bytes)

@@ -1,8 +1,9 @@
 -- How far the items at the front of some bytes reach.
-use Rattle.std.proofs.Common.{◌≡◌, ◌≢◌, ℕ, zero, suc, ◌+◌, ◌-◌, ◌*◌, ◌^◌, ◌<◌, ◌≤◌, min, Bool, true, false, cond, List, [], ◌∷◌, ◌++◌, length, take, drop, get_or, eqb, sum_by, Result, Ok, Err, refl, sym, ap, ◌∙◌, subst, arith, append_assoc, append-nil, add-zero, inl, inr}
+use Rattle.std.proofs.Common.{◌≡◌, ◌≢◌, ℕ, zero, suc, ◌+◌, ◌-◌, ◌*◌, ◌^◌, ◌<◌, ◌≤◌, min, Bool, true, false, cond, is_none, List, [], ◌∷◌, ◌++◌, length, take, drop, get_or, eqb, sum_by, Result, Ok, Err, refl, sym, ap, ◌∙◌, subst, arith, append_assoc, append-nil, add-zero, inl, inr, Some}
 use Rattle.std.proofs.lemmas.List.{length-append, length-drop, at_drop_more, drop-drop, length-take-le, take_rest, get_or-take, get_or-drop, take-take}
 use Rattle.std.proofs.lemmas.List.Sums.{sum_by-append}
 use Rattle.std.proofs.Math.Nat.{mul_assoc, mul-suc, suc-mul, zero-mul}
+use Rattle.std.proofs.lemmas.Option.{same_Some}
 use Rattle.std.proofs.lemmas.Bool.{eq-eqb, ne_eqb, cases_lt}
 use Rattle.scalar_types.specs.declared.Order.{Order}
 use Rattle.scalar_types.specs.declared.Width.{Width}
@@ -14,11 +15,13 @@ use Rattle.type_text.specs.declared.types.Link.{Link as StructLink}
 use Rattle.layout_plan.specs.declared.fields.Form.{Form}
 use Rattle.layout_plan.specs.declared.fields.Form.TheVariants.{Number, Pair, Text, Link}
 use Rattle.layout_plan.specs.declared.fields.Count.{Count}
+use Rattle.layout_plan.specs.declared.fields.Field.{Field}
 use Rattle.layout_plan.specs.declared.faults.BodyReason.{BodyReason}
 use Rattle.layout_plan.specs.declared.faults.BodyReason.TheVariants.{BodyShort, BadText}
 use Rattle.layout_plan.specs.declared.spelled.Spelled.{Spelled}
-use Rattle.layout_plan.specs.Body.{number_of, links_of, value_length, text_length, extent_of, item_count}
+use Rattle.layout_plan.specs.Body.{value_length, text_length, extent_of, item_count}
 use Rattle.layout_plan.specs.Reading.{Found, and_then, found_map, number_in, pair_in, closed_text, text_of_length, text_in, link_in, items_in, single_in, listed_in, field_in}
+use Rattle.layout_plan.specs.Marks.{fixed_width, is_varied}
 use Rattle.layout_plan.specs.Spelled.{IsSpelled, Tells, IsTextSpelled, TellsText, TellsLength, zero_texts_of}
 use Rattle.layout_plan.specs.Exact.{IsExact}
 use Rattle.record_values.specs.Spelling.{IsNumber, IsPair, IsText}
@@ -92,59 +95,75 @@ fixed-items item size fixed zero = record {
 fixed-items item size fixed (suc n) =
     subst (IsFixed (items_in item (suc n))) (omega (arith, suc-mul n size)) (fixed-then item (λ x bytes. found_map (λ xs. x ∷ xs) (items_in item n bytes)) size (n * size) fixed (λ x. fixed-map (λ xs. x ∷ xs) (items_in item n) (n * size) (fixed-items item size fixed n)))
 
+-- a field of fixed width has a value of this many bytes, whatever they are
+pub record IsFixedField (order : Order) (numbers : List ℕ) (form : Form) (counts : List Count) (width : ℕ) : Type 0 where
+  pub enough : (bytes : List ℕ) → width ≤ length bytes → (v : Value) × (field_in order numbers form counts bytes ≡ Ok (v, drop width bytes)) × (value_length form v ≡ width)
+  pub few : (bytes : List ℕ) → length bytes < width → field_in order numbers form counts bytes ≡ Err BodyShort
+
+pub fixed-field : (order : Order) (numbers : List ℕ) (form : Form) (counts : List Count) (width : ℕ) → fixed_width form counts ≡ Some width → IsFixedField order numbers form counts width
+fixed-field order numbers form [] n is = by form is
+  where
+    of_item : {X : Type 0} (item : List ℕ → Found X) (f : X → Value) (form : Form) (size : ℕ) → IsFixed item size → ((bytes : List ℕ) → field_in order numbers form [] bytes ≡ found_map f (item bytes)) → ((x : X) → value_length form (f x) ≡ size) → size ≡ n → IsFixedField order numbers form [] n
+    of_item item f form size fixed reads long same = subst (IsFixedField order numbers form []) same (record {
+      enough = λ bytes le. let e = fixed.enough bytes le in (f e.0, reads bytes ∙ ap (found_map f) e.1, long e.0);
+      few = λ bytes lt. reads bytes ∙ ap (found_map f) (fixed.few bytes lt);
+    })
+
+    by : (form : Form) → fixed_width form [] ≡ Some n → IsFixedField order numbers form [] n
+    by (Number width) is =
+        of_item (number_in order width) value.Num (Number width) (size_of width) (fixed-number order width) (λ bytes. refl) (λ x. refl) (same_Some (size_of width) n is)
+    by (Pair width) is =
+        of_item (pair_in order width) (λ (p : ℕ × ℕ). value.Pair p.0 p.1) (Pair width) (size_of width + size_of width) (fixed-pair order width) (λ bytes. refl) (λ p. omega arith) (omega (arith, same_Some (2 * size_of width) n is))
+    by Link is =
+        of_item (link_in order) value.Link Link 6 (fixed-link order) (λ bytes. refl) (λ link. refl) (same_Some 6 n is)
+    by Text is = cc
+fixed-field order numbers (Number width) (c ∷ cs) n is = cc
+fixed-field order numbers (Pair width) (c ∷ cs) n is = cc
+fixed-field order numbers Text (c ∷ cs) n is = cc
+fixed-field order numbers Link (c ∷ cs) n is = cc
+
 -- what is told of an item of a known length
-plain-Tells : {X : Type 0} (item : List ℕ → Found X) (size links : ℕ) (f : X → Value) (form : Form) → IsFixed item size → ((bytes rest : List ℕ) (x : X) → item bytes ≡ Ok (x, rest) → (number_of (f x) ≡ 0) × (links_of (f x) ≡ links) × (value_length form (f x) ≡ size)) → links ≤ size → (bytes : List ℕ) (r : Result Spelled BodyReason) → TellsLength size links bytes r → Tells (found_map f (item bytes)) form bytes r
-plain-Tells {X} item size links f form fixed tells few bytes (Ok s) told =
+plain-Tells : {X : Type 0} (item : List ℕ → Found X) (size : ℕ) (f : X → Value) (form : Form) → IsFixed item size → ((bytes rest : List ℕ) (x : X) → item bytes ≡ Ok (x, rest) → value_length form (f x) ≡ size) → (bytes : List ℕ) (r : Result Spelled BodyReason) → TellsLength size bytes r → Tells (found_map f (item bytes)) form bytes r
+plain-Tells {X} item size f form fixed long bytes (Ok s) told =
     let e = fixed.enough bytes told.0 in
-    let t = tells bytes (drop size bytes) e.0 e.1 in
     subst (IsSpelled (found_map f (item bytes)) form bytes) (sym told.1) (record {
       value = f e.0;
       is = ap (found_map f) e.1;
       within = told.0;
-      number = sym t.0;
-      links = sym t.1;
-      size = add-zero size ∙ sym t.2;
-      few_links = few;
+      size = add-zero size ∙ sym (long bytes (drop size bytes) e.0 e.1);
       few_texts = omega arith;
     })
-plain-Tells {X} item size links f form fixed tells few bytes (Err reason) told =
+plain-Tells {X} item size f form fixed long bytes (Err reason) told =
     ap (found_map f) (fixed.few bytes told.0) ∙ ap Err (sym told.1)
 
 -- a length that is capped far above the bytes
-TellsLength-exact : (exact capped links : ℕ) (bytes : List ℕ) (r : Result Spelled BodyReason) → capped ≡ min exact (2 ^ 64 - 1) → length bytes < 2 ^ 64 - 1 → TellsLength capped links bytes r → TellsLength exact links bytes r
-TellsLength-exact exact capped links bytes (Ok s) is short told =
+TellsLength-exact : (exact capped : ℕ) (bytes : List ℕ) (r : Result Spelled BodyReason) → capped ≡ min exact (2 ^ 64 - 1) → length bytes < 2 ^ 64 - 1 → TellsLength capped bytes r → TellsLength exact bytes r
+TellsLength-exact exact capped bytes (Ok s) is short told =
     let same : capped ≡ exact = omega (arith, told.0) in
-    subst (λ n. TellsLength n links bytes (Ok s)) same told
-TellsLength-exact exact capped links bytes (Err reason) is short told = (omega (arith, told.0), told.1)
-
-pub pair-Tells : (order : Order) (width : Width) (bytes : List ℕ) (r : Result Spelled BodyReason) → TellsLength (2 * size_of width) 0 bytes r → Tells (single_in order (Pair width) bytes) (Pair width) bytes r
-pair-Tells order width bytes r told =
-    plain-Tells (pair_in order width) (2 * size_of width) 0 (λ (p : ℕ × ℕ). value.Pair p.0 p.1) (Pair width) (subst (IsFixed (pair_in order width)) (omega arith) (fixed-pair order width)) (λ bytes rest p e. (refl, refl, refl)) (omega arith) bytes r told
-
-pub link-Tells : (order : Order) (bytes : List ℕ) (r : Result Spelled BodyReason) → TellsLength 6 1 bytes r → Tells (single_in order Link bytes) Link bytes r
-link-Tells order bytes r told =
-    plain-Tells (link_in order) 6 1 value.Link Link (fixed-link order) (λ bytes rest link e. (refl, refl, refl)) (omega arith) bytes r told
+    subst (λ n. TellsLength n bytes (Ok s)) same told
+TellsLength-exact exact capped bytes (Err reason) is short told = (omega (arith, told.0), told.1)
 
 -- how many items are found
 items-length : {X : Type 0} (item : List ℕ → Found X) (R : X → List ℕ → Type 0) → IsExact item R → (n : ℕ) (bytes rest : List ℕ) (xs : List X) → items_in item n bytes ≡ Ok (xs, rest) → length xs ≡ n
 items-length item R exact n bytes rest xs e = ((items_in-exact item R exact n).found bytes (xs, rest) e).2.count
 
-numbers-Tells : (order : Order) (width : Width) (count : ℕ) (f : List ℕ → Value) → ((xs : List ℕ) → (number_of (f xs) ≡ 0) × (links_of (f xs) ≡ 0) × (value_length (Number width) (f xs) ≡ length xs * size_of width)) → (bytes : List ℕ) (r : Result Spelled BodyReason) (size : ℕ) → size ≡ min (count * size_of width) (2 ^ 64 - 1) → length bytes < 2 ^ 64 - 1 → TellsLength size 0 bytes r → Tells (found_map f (items_in (number_in order width) count bytes)) (Number width) bytes r
+numbers-Tells : (order : Order) (width : Width) (count : ℕ) (f : List ℕ → Value) → ((xs : List ℕ) → value_length (Number width) (f xs) ≡ length xs * size_of width) → (bytes : List ℕ) (r : Result Spelled BodyReason) (size : ℕ) → size ≡ min (count * size_of width) (2 ^ 64 - 1) → length bytes < 2 ^ 64 - 1 → TellsLength size bytes r → Tells (found_map f (items_in (number_in order width) count bytes)) (Number width) bytes r
 numbers-Tells order width count f is bytes r size capped short told =
-    plain-Tells (items_in (number_in order width) count) (count * size_of width) 0 f (Number width) (fixed-items (number_in order width) (size_of width) (fixed-number order width) count) (λ bytes rest xs e. ((is xs).0, (is xs).1, (is xs).2 ∙ ap (λ n. n * size_of width) (items-length (number_in order width) (IsNumber order width) (number_in-exact order width) count bytes rest xs e))) (omega arith) bytes r (TellsLength-exact (count * size_of width) size 0 bytes r capped short told)
+    plain-Tells (items_in (number_in order width) count) (count * size_of width) f (Number width) (fixed-items (number_in order width) (size_of width) (fixed-number order width) count) (λ bytes rest xs e. is xs ∙ ap (λ n. n * size_of width) (items-length (number_in order width) (IsNumber order width) (number_in-exact order width) count bytes rest xs e)) bytes r (TellsLength-exact (count * size_of width) size bytes r capped short told)
 
-pub listed_numbers-Tells : (order : Order) (width : Width) (count : ℕ) (bytes : List ℕ) (r : Result Spelled BodyReason) (size : ℕ) → size ≡ min (count * size_of width) (2 ^ 64 - 1) → length bytes < 2 ^ 64 - 1 → TellsLength size 0 bytes r → Tells (listed_in order (Number width) count bytes) (Number width) bytes r
-listed_numbers-Tells order One count = numbers-Tells order One count value.Bytes (λ xs. (refl, refl, refl))
-listed_numbers-Tells order Two count = numbers-Tells order Two count value.Nums (λ xs. (refl, refl, refl))
-listed_numbers-Tells order Four count = numbers-Tells order Four count value.Nums (λ xs. (refl, refl, refl))
-listed_numbers-Tells order Eight count = numbers-Tells order Eight count value.Nums (λ xs. (refl, refl, refl))
+pub listed_numbers-Tells : (order : Order) (width : Width) (count : ℕ) (bytes : List ℕ) (r : Result Spelled BodyReason) (size : ℕ) → size ≡ min (count * size_of width) (2 ^ 64 - 1) → length bytes < 2 ^ 64 - 1 → TellsLength size bytes r → Tells (listed_in order (Number width) count bytes) (Number width) bytes r
+listed_numbers-Tells order One count = numbers-Tells order One count value.Bytes (λ xs. refl)
+listed_numbers-Tells order Two count = numbers-Tells order Two count value.Nums (λ xs. refl)
+listed_numbers-Tells order Four count = numbers-Tells order Four count value.Nums (λ xs. refl)
+listed_numbers-Tells order Eight count = numbers-Tells order Eight count value.Nums (λ xs. refl)
 
-pub listed_pairs-Tells : (order : Order) (width : Width) (count : ℕ) (bytes : List ℕ) (r : Result Spelled BodyReason) (size : ℕ) → size ≡ min (count * (2 * size_of width)) (2 ^ 64 - 1) → length bytes < 2 ^ 64 - 1 → TellsLength size 0 bytes r → Tells (listed_in order (Pair width) count bytes) (Pair width) bytes r
+pub listed_pairs-Tells : (order : Order) (width : Width) (count : ℕ) (bytes : List ℕ) (r : Result Spelled BodyReason) (size : ℕ) → size ≡ min (count * (2 * size_of width)) (2 ^ 64 - 1) → length bytes < 2 ^ 64 - 1 → TellsLength size bytes r → Tells (listed_in order (Pair width) count bytes) (Pair width) bytes r
 listed_pairs-Tells order width count bytes r size capped short told =
-    plain-Tells (items_in (pair_in order width) count) (count * (2 * size_of width)) 0 value.Pairs (Pair width) (fixed-items (pair_in order width) (2 * size_of width) (subst (IsFixed (pair_in order width)) (omega arith) (fixed-pair order width)) count) (λ bytes rest xs e. (refl, refl, ap (λ n. n * (2 * size_of width)) (items-length (pair_in order width) (IsPair order width) (pair_in-exact order width) count bytes rest xs e))) (omega arith) bytes r (TellsLength-exact (count * (2 * size_of width)) size 0 bytes r capped short told)
+    plain-Tells (items_in (pair_in order width) count) (count * (2 * size_of width)) value.Pairs (Pair width) (fixed-items (pair_in order width) (2 * size_of width) (subst (IsFixed (pair_in order width)) (omega arith) (fixed-pair order width)) count) (λ bytes rest xs e. ap (λ n. n * (2 * size_of width)) (items-length (pair_in order width) (IsPair order width) (pair_in-exact order width) count bytes rest xs e)) bytes r (TellsLength-exact (count * (2 * size_of width)) size bytes r capped short told)
 
-pub listed_link-Tells : (order : Order) (count : ℕ) (bytes : List ℕ) (r : Result Spelled BodyReason) → TellsLength 6 1 bytes r → Tells (listed_in order Link count bytes) Link bytes r
-listed_link-Tells order count bytes r told = link-Tells order bytes r told
+pub listed_link-Tells : (order : Order) (count : ℕ) (bytes : List ℕ) (r : Result Spelled BodyReason) → TellsLength 6 bytes r → Tells (listed_in order Link count bytes) Link bytes r
+listed_link-Tells order count bytes r told =
+    plain-Tells (link_in order) 6 value.Link Link (fixed-link order) (λ bytes rest link e. refl) bytes r told
 
 -- a text's length, and what stands after it
 text_in-number : (order : Order) (bytes : List ℕ) (n : ℕ) → 2 ≤ length bytes → n ≡ number order (take 2 bytes) → text_in order bytes ≡ text_of_length (n, drop 2 bytes)
@@ -245,15 +264,12 @@ AreTextsSoFar-stops order count bytes done at bare reason before lt e =
     ap (found_map value.Texts) (before.reads ∙ ap (found_map (λ others. before.texts ++ others)) (items_in-suc (text_in order) (count - (done + 1)) (count - done) (drop at bytes) (omega arith) ∙ ap (λ r. and_then r (λ (x : List ℕ × List ℕ). found_map (λ xs. x.0 ∷ xs) (items_in (text_in order) (count - (done + 1)) x.1))) e))
 
 -- all texts
-pub AreTextsSoFar-all : (order : Order) (count : ℕ) (bytes : List ℕ) (done at bare : ℕ) → AreTextsSoFar order count bytes done at bare → count ≤ done → IsSpelled (listed_in order Text count bytes) Text bytes (record { length = at; zero_texts = bare; links = 0; number = 0 })
+pub AreTextsSoFar-all : (order : Order) (count : ℕ) (bytes : List ℕ) (done at bare : ℕ) → AreTextsSoFar order count bytes done at bare → count ≤ done → IsSpelled (listed_in order Text count bytes) Text bytes (record { length = at; zero_texts = bare })
 AreTextsSoFar-all order count bytes done at bare before le = record {
   value = value.Texts before.texts;
   is = ap (found_map value.Texts) (before.reads ∙ ap (found_map (λ others. before.texts ++ others)) (items_in-zero (text_in order) (count - done) (drop at bytes) (omega arith)) ∙ ap (λ xs. Ok (xs, drop at bytes)) (append-nil before.texts));
   within = before.within;
-  number = refl;
-  links = refl;
   size = before.sizes;
-  few_links = omega arith;
   few_texts = before.few;
 }
 
@@ -315,8 +331,21 @@ field_in-listed order numbers form [] bytes count some is = absurd (some refl)
 field_in-listed order numbers form (c ∷ cs) bytes count some is =
     sym (listed_in-capped order form (item_count numbers (c ∷ cs)) bytes) ∙ ap (λ n. listed_in order form n bytes) (sym is)
 
-pub field_in-single : (order : Order) (numbers : List ℕ) (form : Form) (counts : List Count) (bytes : List ℕ) → counts ≡ [] → field_in order numbers form counts bytes ≡ single_in order form bytes
-field_in-single order numbers form counts bytes none = ap (λ cs. field_in order numbers form cs bytes) none
+-- a varied field without dimension is a text
+varied-text : (form : Form) (counts : List Count) → counts ≡ [] → is_none (fixed_width form counts) ≡ true → form ≡ Text
+varied-text form [] none varied = by form varied
+  where
+    by : (form : Form) → is_none (fixed_width form []) ≡ true → form ≡ Text
+    by Text varied = refl
+    by (Number width) varied = cc
+    by (Pair width) varied = cc
+    by Link varied = cc
+varied-text form (c ∷ cs) none varied = cc
+
+pub varied-single : (order : Order) (numbers : List ℕ) (f : Field) (bytes : List ℕ) (r : Result Spelled BodyReason) → f.counts ≡ [] → is_varied f ≡ true → Tells (single_in order Text bytes) Text bytes r → Tells (field_in order numbers f.form f.counts bytes) f.form bytes r
+varied-single order numbers f bytes r none varied told =
+    let text = varied-text f.form f.counts none varied in
+    subst (λ form. Tells (field_in order numbers form f.counts bytes) form bytes r) (sym text) (subst (λ counts. Tells (field_in order numbers Text counts bytes) Text bytes r) (sym none) told)
 
 -- a slice to the end
 pub TellsText-rest : (order : Order) (bytes : List ℕ) (at : ℕ) (r : Result ℕ BodyReason) → TellsText (text_in order (take (length bytes - at) (drop at bytes))) (take (length bytes - at) (drop at bytes)) r → TellsText (text_in order (drop at bytes)) (drop at bytes) r

@@ -43,7 +43,6 @@ pub record IsPlaced (order : Order) (fields : List Field) (bytes : List ℕ) (k 
   pub is : slice_get fields k ≡ Some field
   pub here : HasValueAt order fields bytes k value
   pub found : field_in order numbers field.form field.counts (drop p.start bytes) ≡ Ok (value, drop (p.start + p.length) bytes)
-  pub number : p.number ≡ number_of value
   pub within : p.start + p.length ≤ length bytes
   pub begins : EndsAt order fields bytes k p.start
   pub ends : EndsAt order fields bytes (k + 1) (p.start + p.length)

@@ -9,3 +9,5 @@ pub mod Walking
 pub mod Lent
 pub mod Plans
 pub mod Links
+pub mod Marks
+pub mod BuiltIn

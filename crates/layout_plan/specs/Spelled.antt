@@ -5,7 +5,7 @@ use Rattle.layout_plan.specs.declared.fields.Form.{Form}
 use Rattle.layout_plan.specs.declared.faults.BodyReason.{BodyReason}
 use Rattle.layout_plan.specs.declared.faults.BodyReason.TheVariants.{BodyShort}
 use Rattle.layout_plan.specs.declared.spelled.Spelled.{Spelled}
-use Rattle.layout_plan.specs.Body.{number_of, links_of, value_length, text_length}
+use Rattle.layout_plan.specs.Body.{value_length, text_length}
 use Rattle.layout_plan.specs.Reading.{Found}
 
 -- a value is found at the front of the bytes, and this is told of it
@@ -13,10 +13,7 @@ pub record IsSpelled (found : Found Value) (form : Form) (bytes : List ℕ) (s :
   pub value : Value
   pub is : found ≡ Ok (value, drop s.length bytes)
   pub within : s.length ≤ length bytes
-  pub number : s.number ≡ number_of value
-  pub links : s.links ≡ links_of value
   pub size : s.length + s.zero_texts ≡ value_length form value
-  pub few_links : s.links ≤ s.length
   pub few_texts : s.zero_texts ≤ s.length
 
 -- what is told of what is found
@@ -40,8 +37,7 @@ abbrev pub TellsText : Found (List ℕ) → List ℕ → Result ℕ BodyReason �
 TellsText found bytes (Ok size) = IsTextSpelled found bytes size
 TellsText found bytes (Err reason) = found ≡ Err reason
 
--- so many bytes with so many links are there, or they are not
-abbrev pub TellsLength : ℕ → ℕ → List ℕ → Result Spelled BodyReason → Type 0
-TellsLength size links bytes (Ok s) =
-    (size ≤ length bytes) × (s ≡ record { length = size; zero_texts = 0; links = links; number = 0 })
-TellsLength size links bytes (Err reason) = (length bytes < size) × (reason ≡ BodyShort)
+-- so many bytes are there, or they are not
+abbrev pub TellsLength : ℕ → List ℕ → Result Spelled BodyReason → Type 0
+TellsLength size bytes (Ok s) = (size ≤ length bytes) × (s ≡ record { length = size; zero_texts = 0 })
+TellsLength size bytes (Err reason) = (length bytes < size) × (reason ≡ BodyShort)

@@ -1,31 +1,66 @@
 -- What a walk over fields tells, and what is told of a body.
-use Rattle.std.specs.Prelude.{◌≡◌, ◌+◌, ◌≤◌, List, [], ◌++◌, ℕ, Result, Ok, Err, length, take, drop, map, sum_by}
+use Rattle.std.specs.Prelude.{◌≡◌, ◌+◌, ◌≤◌, ◌<◌, List, [], ℕ, Result, Ok, Err, length, take, drop, map}
 use Rattle.record_values.specs.declared.values.Value.{Value}
 use Rattle.layout_plan.specs.declared.walking.Walked.{Walked}
 use Rattle.scalar_types.specs.declared.Order.{Order}
+use Rattle.scalar_types.specs.Number.{number, size_of}
+use Rattle.layout_plan.specs.declared.fields.Form.{Form}
+use Rattle.layout_plan.specs.declared.fields.Form.TheVariants.{Number}
+use Rattle.layout_plan.specs.declared.fields.Count.{Count}
 use Rattle.layout_plan.specs.declared.fields.Field.{Field}
 use Rattle.layout_plan.specs.declared.faults.BodyFault.{BodyFault}
 use Rattle.layout_plan.specs.declared.faults.Measured.{Measured}
-use Rattle.layout_plan.specs.Body.{number_of, links_of, values_length, IsMeasured}
-use Rattle.layout_plan.specs.Reading.{found_map, fields_in, body_in}
+use Rattle.layout_plan.specs.Body.{number_of, values_length, IsMeasured}
+use Rattle.layout_plan.specs.Reading.{fields_in, body_in}
+use Rattle.layout_plan.specs.Marks.{mark_of, end_of, place_of}
 
--- the values of the first i fields, which end at a place of the body
-pub record IsWalked (order : Order) (fields : List Field) (body : List ℕ) (i : ℕ) (numbers : List ℕ) (at links zero_texts : ℕ) : Type 0 where
+-- the first k fields have values, which end at a place of the body
+pub record IsReached (order : Order) (fields : List Field) (body : List ℕ) (k at zero_texts : ℕ) : Type 0 where
   pub values : List Value
-  pub count : length values ≡ i
-  pub numbers_are : take i numbers ≡ map number_of values
-  pub reads : fields_in order [] fields body ≡ found_map (λ others. values ++ others) (fields_in order (map number_of values) (drop i fields) (drop at body))
-  pub links_are : links ≡ sum_by links_of values
-  pub sizes : at + zero_texts ≡ values_length (take i fields) values
+  pub reads : fields_in order [] (take k fields) body ≡ Ok (values, drop at body)
+  pub sizes : at + zero_texts ≡ values_length (take k fields) values
   pub within : at ≤ length body
-  pub few_links : links ≤ at
   pub few_texts : zero_texts ≤ at
 
--- the fields are walked over, or one has the fault
-abbrev pub TellsWalk : Order → List Field → List ℕ → List ℕ → Result Walked BodyFault → Type 0
-TellsWalk order fields bytes numbers (Ok w) =
-    IsWalked order fields bytes (length fields) numbers w.at w.links w.zero_texts
-TellsWalk order fields bytes numbers (Err fault) = fields_in order [] fields bytes ≡ Err fault
+-- the first k fields and the place after them are where their marks tell
+pub record ArePlaces (order : Order) (fields : List Field) (body : List ℕ) (k : ℕ) (ends : List ℕ) : Type 0 where
+  pub room : (mark_of fields k).varied ≤ length ends
+  pub reached : (i : ℕ) → i ≤ k → (zero_texts : ℕ) × IsReached order fields body i (place_of ends (mark_of fields i)) zero_texts
+
+-- the numbers of the first k fields
+abbrev pub AreNumbers : Order → List Field → List ℕ → ℕ → List ℕ → Type 0
+AreNumbers order fields body k numbers =
+    (values : List Value) × (rest : List ℕ) × (fields_in order [] (take k fields) body ≡ Ok (values, rest)) × (numbers ≡ map number_of values)
+
+-- the first of the varied fields are walked over: the last of them stands before field `next`, and their ends are known
+pub record IsWalked (order : Order) (fields : List Field) (body : List ℕ) (varied : ℕ) (ends : List ℕ) (zero_texts : ℕ) : Type 0 where
+  pub next : ℕ
+  pub few : next ≤ length fields
+  pub mark : mark_of fields next ≡ record { varied = varied; skip = 0 }
+  pub before : (i : ℕ) → i < next → (mark_of fields i).varied < varied
+  pub reached : IsReached order fields body next (end_of ends varied) zero_texts
+  pub places : ArePlaces order fields body next ends
+
+abbrev pub HasWalked : List Field → List ℕ → ℕ → List ℕ → Type 0
+HasWalked fields body varied ends =
+    (order : Order) × (zero_texts : ℕ) × IsWalked order fields body varied ends zero_texts
+
+-- the first k fields have values, and those before number `known` are where their marks tell; or one of the fields has the fault
+abbrev pub TellsReached : Order → List Field → List ℕ → ℕ → ℕ → List ℕ → Result Walked BodyFault → Type 0
+TellsReached order fields body k known ends (Ok w) =
+    IsReached order fields body k w.at w.zero_texts × ArePlaces order fields body known ends
+TellsReached order fields body k known ends (Err fault) = fields_in order [] fields body ≡ Err fault
+
+-- the same of the place after the first k fields
+abbrev pub TellsStart : Order → List Field → List ℕ → ℕ → List ℕ → ℕ → Result ℕ BodyFault → Type 0
+TellsStart order fields body k ends zero_texts (Ok at) =
+    IsReached order fields body k at zero_texts × ArePlaces order fields body k ends
+TellsStart order fields body k ends zero_texts (Err fault) = fields_in order [] fields body ≡ Err fault
+
+-- the number that a field at the front of the bytes is, where it is a single one
+abbrev pub number_at : Order → Form → List Count → List ℕ → ℕ
+number_at order (Number width) [] bytes = number order (take (size_of width) bytes)
+number_at order form counts bytes = 0
 
 -- the body is measured, or it has the fault
 abbrev pub TellsBody : Order → List Field → List ℕ → Result Measured BodyFault → Type 0

@@ -1,12 +1,11 @@
-//! Fields read from the bytes of a body, without its values. Each call walks over the fields before the one that it reads.
+//! Fields read from the bytes of a body, without its values. Each call walks over the varied fields up to the one that it reads.
 ghost use Rattle.std.specs.Prelude.{◌≡◌, ◌+◌, ◌≤◌, ◌<◌, ◌-◌, length, take, drop};
 ghost use Rattle.layout_plan.specs.Body.{HasBody};
-ghost use Rattle.layout_plan.specs.Layout.{IsLayout};
+ghost use Rattle.layout_plan.specs.Marks.{mark_of};
 ghost use Rattle.layout_plan.specs.Lent.{EndsAt, HasNumberAt, HasTextAt, IsNumberField, IsTextField, IsPlaced};
 
-use crate::spelled::field_at;
-use crate::walking::{FEW_FIELDS, FIELD_LIMIT, walk};
-use crate::{Field, Plan};
+use crate::Plan;
+use crate::walking::{FEW_FIELDS, FIELD_LIMIT, number_at, place, walk};
 use scalar_types::Order;
 
 /// A field's place in a body.
@@ -14,8 +13,6 @@ use scalar_types::Order;
 pub struct Placed {
     pub start: usize,
     pub length: usize,
-    /// The number that the field is, or 0 where it is none.
-    pub number: u64,
 }
 
 /// Where a field begins and where it ends, in bytes from the beginning of a body that spells the layout. Takes no memory.
@@ -38,7 +35,8 @@ pub fn num_at(plan: &Plan, order: Order, body: &[u8], field: u32) -> u64
     requires number { IsNumberField plan.now field }
     ensures { HasNumberAt order plan.now body.now field result }
 {
-    place_of(plan, order, body, field).number
+    let start = place_of(plan, order, body, field).start;
+    number_at(order, &plan.fields()[field as usize], &body[start..])
 }
 
 /// The text of a field without dimension, lent from a body that spells the layout, without its closing zero byte. Takes no memory.
@@ -62,32 +60,32 @@ fn text_of(spelling: &[u8]) -> &[u8]
     &spelling[2..spelling.len() - 1]
 }
 
+/// The place of a field in a body that spells the layout.
 pub fn place_of(plan: &Plan, order: Order, body: &[u8], field: u32) -> Placed
     requires body { HasBody order plan.now body.now }
     requires field { field < length plan.now }
     ensures { IsPlaced order plan.now body.now field result }
 {
-    let fields = plan.fields();
-    if fields.len() <= FEW_FIELDS {
-        place_in(fields, order, body, field as usize, &mut [0; FEW_FIELDS])
+    if plan.mark(field as usize + 1).varied as usize <= FEW_FIELDS {
+        place_in(plan, order, body, field, &mut [0; FEW_FIELDS])
     } else {
-        place_in(fields, order, body, field as usize, &mut [0; FIELD_LIMIT])
+        place_in(plan, order, body, field, &mut [0; FIELD_LIMIT])
     }
 }
 
-/// The place of a field, with room for the numbers of the fields.
-fn place_in(fields: &[Field], order: Order, body: &[u8], k: usize, numbers: &mut [u64]) -> Placed
-    requires layout { IsLayout fields.now }
-    requires room { length fields.now ≤ length numbers.old }
-    requires body { HasBody order fields.now body.now }
-    requires field { k < length fields.now }
-    ensures { IsPlaced order fields.now body.now k result }
+/// The same, with room for where each varied field up to this one ends.
+fn place_in(plan: &Plan, order: Order, body: &[u8], field: u32, ends: &mut [usize]) -> Placed
+    requires body { HasBody order plan.now body.now }
+    requires field { field < length plan.now }
+    requires room { (mark_of plan.now (field + 1)).varied ≤ length ends.old }
+    ensures { IsPlaced order plan.now body.now field result }
 {
-    let start = walk(&fields[..k], order, body, numbers).unwrap().at;
-    let spelled = field_at(order, &fields[k], &numbers[..k], &body[start..]).unwrap();
+    let k = field as usize;
+    let mark = plan.mark(k);
+    let end = walk(plan, k + 1, order, body, ends).unwrap().at;
+    let start = place(mark, ends);
     Placed {
         start,
-        length: spelled.length,
-        number: spelled.number,
+        length: end - start,
     }
 }

@@ -3,22 +3,25 @@
 //! `compile` makes the plan of an entry, and `measure` tells whether a body spells it.
 #![tactic(auto)]
 
+mod built_in;
 mod faults;
 mod fields;
 mod laws;
 mod lent;
 mod links;
+mod marks;
 mod measuring;
 mod plan;
 mod plans;
 mod spelled;
 mod walking;
 
+pub use built_in::{element_plan, structure_plan};
 pub use faults::{BodyFault, BodyReason, Measured};
 pub use fields::{Count, CountList, Field, Form};
 pub use laws::{bodies_have_one_answer, layouts_are_sound};
 pub use lent::{num_at, span_of, text_at};
-pub use links::link_at;
+pub use links::{link_at, link_field};
 pub use measuring::measure;
 pub use plan::{Plan, compile};
 pub use plans::Plans;
@@ -26,5 +29,7 @@ pub use spelled::capped_count;
 
 #[cfg(test)]
 mod tests;
+#[cfg(test)]
+mod tests_of_built_in;
 #[cfg(test)]
 mod tests_of_plans;

@@ -13,30 +13,20 @@ pub fn link_at(plan: &Plan, order: Order, body: &[u8], k: u64) -> Link
     requires { HasLink order plan.now body.now k }
     ensures { HasLinkAt order plan.now body.now k result }
 {
-    let field = link_field(plan.fields(), k);
+    let field = link_field(plan, k);
     let placed = place_of(plan, order, body, field);
     link_of(order, &body[placed.start..])
 }
 
-/// The number of the field that is the link of this number.
-fn link_field(fields: &[Field], k: u64) -> u32
-    requires few { length fields.now ≤ 4096 }
-    requires link { k < count_by is_link fields.now }
-    ensures { IsLinkField fields.now k result }
+/// The number of the field that is the link of this number, from 0. Takes no memory.
+pub fn link_field(plan: &Plan, k: u64) -> u32
+    requires { k < count_by is_link plan.now }
+    ensures { IsLinkField plan.now k result }
 {
-    let mut links = 0;
-    for (i, field) in fields.iter().enumerate() {
-        if is_link(field) {
-            if links == k {
-                return i as u32;
-            }
-            links += 1;
-        }
-    }
-    unreachable!()
+    plan.links()[k as usize]
 }
 
-fn is_link(field: &Field) -> bool
+pub fn is_link(field: &Field) -> bool
     ensures { result ≡ is_link field.now }
 {
     matches!(field.form, Form::Link)

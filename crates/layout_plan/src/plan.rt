@@ -1,9 +1,13 @@
 //! The plan of an entry: its layout, compiled once.
-ghost use Rattle.std.specs.Prelude.{◌≡◌, ◌≤◌, ◌++◌, List, [], ◌∷◌, length, IfOk, OnOk};
+ghost use Rattle.std.specs.Prelude.{◌≡◌, ◌≤◌, ◌++◌, List, [], ◌∷◌, length, if◌then◌else◌, IfOk, OnOk};
 ghost use Rattle.layout_plan.specs.Layout.{layout_of, form_of, is_counter, count_of, counts_of, field_of, IsLayout};
+ghost use Rattle.layout_plan.specs.Links.{is_link};
+ghost use Rattle.layout_plan.specs.Marks.{is_varied, numbers_where, mark_of};
 ghost use Rattle.layout_plan.specs.Names.{counter_at, HoldsNames};
 ghost use Rattle.dictionary.specs.declared.entries.Element.{Element};
 
+use crate::links::is_link;
+use crate::marks::{Mark, fixed_width, past};
 use crate::{Count, CountList, Field, Form};
 use dictionary::{Element, Entry};
 use indexmap::IndexMap;
@@ -19,18 +23,24 @@ type Names = IndexMap<Vec<u8>, Option<u32>>;
 #[derive(Drop)]
 pub struct Plan {
     fields: ItemList<Field>,
+    /// The numbers of the varied fields.
+    varied: ItemList<u32>,
+    /// The mark of each field, and of the place after the last.
+    marks: ItemList<Mark>,
+    /// The numbers of the links.
+    links: ItemList<u32>,
 }
 
 impl Model for Plan {
     ghost use Rattle.std.specs.Prelude.{List};
     ghost use Rattle.layout_plan.specs.declared.fields.Field.{Field};
-    ghost use Rattle.layout_plan.specs.Layout.{IsLayout};
+    ghost use Rattle.layout_plan.specs.Marks.{ArePlanned};
 
     ghost Value = { List Field };
 
     ghost view = { λ plan. plan.fields };
 
-    ghost invariant = { λ plan. IsLayout plan.fields };
+    ghost invariant = { λ plan. ArePlanned plan.fields plan.varied plan.marks plan.links };
 }
 
 impl Plan {
@@ -40,6 +50,29 @@ impl Plan {
         ensures layout { IsLayout self.now }
     {
         self.fields.as_slice()
+    }
+
+    /// The numbers of the varied fields, in order.
+    pub(crate) fn varied(&self) -> &[u32]
+        ensures { result.now ≡ numbers_where is_varied 0 self.now }
+    {
+        self.varied.as_slice()
+    }
+
+    /// The mark of a field, or of the place after the last.
+    pub(crate) fn mark(&self, k: usize) -> Mark
+        requires { k ≤ length self.now }
+        ensures mark { result ≡ mark_of self.now k }
+        ensures layout { IsLayout self.now }
+    {
+        self.marks.as_slice()[k]
+    }
+
+    /// The numbers of the links, in order.
+    pub(crate) fn links(&self) -> &[u32]
+        ensures { result.now ≡ numbers_where is_link 0 self.now }
+    {
+        self.links.as_slice()
     }
 }
 
@@ -60,7 +93,42 @@ pub fn compile(alloc: Global, entry: &Entry) -> Result<Option<Plan>, AllocError>
         fields.push(field)?;
         note_name(alloc, &mut names, i as u32, element)?;
     }
-    Ok(Some(Plan { fields }))
+    Ok(Some(planned(alloc, fields)?))
+}
+
+/// The plan of these fields.
+pub fn planned(alloc: Global, fields: ItemList<Field>) -> Result<Plan, AllocError>
+    requires { IsLayout fields }
+    ensures { IfOk result (λ plan. plan ≡ fields) }
+{
+    let mut varied = ItemList::new(alloc);
+    let mut marks = ItemList::new(alloc);
+    let mut links = ItemList::new(alloc);
+    let mut mark = Mark { varied: 0, skip: 0 };
+    for (i, field) in fields.as_slice().iter().enumerate() {
+        let width = fixed_width(field);
+        note_number(&mut varied, i as u32, width.is_none())?;
+        note_number(&mut links, i as u32, is_link(field))?;
+        marks.push(mark)?;
+        mark = past(mark, width);
+    }
+    marks.push(mark)?;
+    Ok(Plan {
+        fields,
+        varied,
+        marks,
+        links,
+    })
+}
+
+/// Puts the number of a field at the end where it is such.
+fn note_number(numbers: &mut ItemList<u32>, i: u32, such: bool) -> Result<(), AllocError>
+    ensures { OnOk result (numbers.new ≡ numbers.old ++ (if such then i ∷ [] else [])) }
+{
+    if such {
+        numbers.push(i)?;
+    }
+    Ok(())
 }
 
 /// Notes the name of the element of this number. An earlier element of the same name stays.

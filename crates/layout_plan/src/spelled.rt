@@ -1,7 +1,8 @@
-//! How far one field of a body reaches, and what `measure` counts of it. No memory is taken, whatever count a list claims.
-ghost use Rattle.std.specs.Prelude.{◌≡◌, ℕ, ◌≤◌, ◌<◌, ◌+◌, ◌*◌, min, length};
+//! How far a varied field of a body reaches, and what `measure` counts of it. No memory is taken, whatever count a list claims.
+ghost use Rattle.std.specs.Prelude.{◌≡◌, ℕ, ◌≤◌, ◌<◌, ◌+◌, ◌*◌, true, List, min, length};
 ghost use Rattle.scalar_types.specs.Number.{size_of};
 ghost use Rattle.layout_plan.specs.Body.{extent_of, item_count};
+ghost use Rattle.layout_plan.specs.Marks.{is_varied};
 ghost use Rattle.layout_plan.specs.Reading.{single_in, listed_in, field_in, text_in};
 ghost use Rattle.layout_plan.specs.Spelled.{Tells, TellsText, TellsLength, zero_texts_of};
 
@@ -15,25 +16,22 @@ pub struct Spelled {
     pub length: usize,
     /// The texts spelled by a length of 0 alone.
     pub zero_texts: u64,
-    pub links: u64,
-    /// The number that the field is, or 0 where it is none.
-    pub number: u64,
 }
 
-/// The field at the front of the bytes, by the numbers of the fields before it.
-pub fn field_at(
+/// A varied field at the front of the bytes. One with dimensions has so many items; a count above the number of bytes may stand for
+/// each greater one, since each item takes a byte or more.
+pub fn varied_at(
     order: Order,
     field: &Field,
-    numbers: &[u64],
+    count: usize,
     bytes: &[u8],
 ) -> Result<Spelled, BodyReason>
-    ensures { Tells (field_in order numbers.now field.now.form field.now.counts bytes.now) field.now.form bytes.now result }
+    requires { is_varied field.now ≡ true }
+    ensures { (numbers : List ℕ) → count ≡ min (item_count numbers field.now.counts) (length bytes.now + 1) → Tells (field_in order numbers field.now.form field.now.counts bytes.now) field.now.form bytes.now result }
 {
     if field.counts.is_empty() {
-        return single_at(order, field.form, bytes);
+        return text_at(order, bytes);
     }
-    // A list of more items than there are bytes has no spelling, so no greater count need be told apart.
-    let count = capped_count(field.counts.as_slice(), numbers, bytes.len() + 1);
     listed_at(order, field.form, count, bytes)
 }
 
@@ -49,7 +47,8 @@ pub fn capped_count(counts: &[Count], numbers: &[u64], cap: usize) -> usize
     count
 }
 
-fn capped_product(count: usize, extent: u64, cap: usize) -> usize
+/// The product of a count that is capped and one more extent.
+pub fn capped_product(count: usize, extent: u64, cap: usize) -> usize
     ensures { result ≡ min (count * extent) cap }
 {
     count.saturating_mul(extent as usize).min(cap)
@@ -65,36 +64,24 @@ fn extent(count: Count, numbers: &[u64]) -> u64
     }
 }
 
-/// The value of a field without dimension.
-fn single_at(order: Order, form: Form, bytes: &[u8]) -> Result<Spelled, BodyReason>
-    ensures { Tells (single_in order form bytes.now) form bytes.now result }
-{
-    match form {
-        Form::Number(width) => number_at(order, width, bytes),
-        Form::Pair(width) => plain_at(2 * width.size(), 0, bytes),
-        Form::Text => text_at(order, bytes),
-        Form::Link => plain_at(LINK_SIZE, 1, bytes),
-    }
-}
-
 /// The value of a field with dimensions, which has so many items.
 fn listed_at(order: Order, form: Form, count: usize, bytes: &[u8]) -> Result<Spelled, BodyReason>
     ensures { Tells (listed_in order form count bytes.now) form bytes.now result }
 {
     match form {
-        Form::Number(width) => plain_at(count.saturating_mul(width.size()), 0, bytes),
-        Form::Pair(width) => plain_at(count.saturating_mul(2 * width.size()), 0, bytes),
+        Form::Number(width) => plain_at(count.saturating_mul(width.size()), bytes),
+        Form::Pair(width) => plain_at(count.saturating_mul(2 * width.size()), bytes),
         Form::Text => texts_at(order, count, bytes),
-        Form::Link => plain_at(LINK_SIZE, 1, bytes),
+        Form::Link => plain_at(LINK_SIZE, bytes),
     }
 }
 
 /// The bytes of a link: its class and its instance.
-const LINK_SIZE: usize = 6;
+pub const LINK_SIZE: usize = 6;
 
-/// So many bytes, with so many links in them.
-fn plain_at(length: usize, links: u64, bytes: &[u8]) -> Result<Spelled, BodyReason>
-    ensures { TellsLength length links bytes.now result }
+/// So many bytes.
+fn plain_at(length: usize, bytes: &[u8]) -> Result<Spelled, BodyReason>
+    ensures { TellsLength length bytes.now result }
 {
     if bytes.len() < length {
         return Err(BodyReason::BodyShort);
@@ -102,25 +89,10 @@ fn plain_at(length: usize, links: u64, bytes: &[u8]) -> Result<Spelled, BodyReas
     Ok(Spelled {
         length,
         zero_texts: 0,
-        links,
-        number: 0,
     })
 }
 
-fn number_at(order: Order, width: Width, bytes: &[u8]) -> Result<Spelled, BodyReason>
-    ensures { Tells (single_in order (Form.Number width) bytes.now) (Form.Number width) bytes.now result }
-{
-    if bytes.len() < width.size() {
-        return Err(BodyReason::BodyShort);
-    }
-    Ok(Spelled {
-        length: width.size(),
-        zero_texts: 0,
-        links: 0,
-        number: read_num(order, width, bytes),
-    })
-}
-
+/// One text.
 fn text_at(order: Order, bytes: &[u8]) -> Result<Spelled, BodyReason>
     ensures { Tells (single_in order Form.Text bytes.now) Form.Text bytes.now result }
 {
@@ -131,8 +103,6 @@ fn text_at(order: Order, bytes: &[u8]) -> Result<Spelled, BodyReason>
     Ok(Spelled {
         length,
         zero_texts: zero_texts(length),
-        links: 0,
-        number: 0,
     })
 }
 
@@ -154,8 +124,6 @@ fn texts_at(order: Order, count: usize, bytes: &[u8]) -> Result<Spelled, BodyRea
     Ok(Spelled {
         length: at,
         zero_texts: zeros,
-        links: 0,
-        number: 0,
     })
 }
 

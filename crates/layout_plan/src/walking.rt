@@ -1,15 +1,21 @@
-//! Fields walked over one after another, from the beginning of a body.
-ghost use Rattle.std.specs.Prelude.{◌≡◌, ◌≤◌, length};
-ghost use Rattle.layout_plan.specs.Walking.{TellsWalk};
+//! A walk over the varied fields of a body. The fields of fixed width between them are passed over by the plan's marks.
+ghost use Rattle.std.specs.Prelude.{◌≡◌, ◌+◌, ◌*◌, ◌≤◌, ◌<◌, ◌^◌, ℕ, true, List, min, length, slice_get, Some};
+ghost use Rattle.scalar_types.specs.declared.Order.{Order};
+ghost use Rattle.layout_plan.specs.declared.fields.Field.{Field};
+ghost use Rattle.layout_plan.specs.Layout.{IsEarlier};
+ghost use Rattle.layout_plan.specs.Body.{extent_of, item_count};
+ghost use Rattle.layout_plan.specs.Marks.{mark_of, end_of, place_of, fixed_width, is_varied};
+ghost use Rattle.layout_plan.specs.Walking.{number_at, ArePlaces, AreNumbers, IsWalked, HasWalked, TellsReached, TellsStart};
 
-use crate::spelled::field_at;
-use crate::{BodyFault, BodyReason, Field};
-use scalar_types::Order;
+use crate::marks::Mark;
+use crate::spelled::{capped_product, varied_at};
+use crate::{BodyFault, BodyReason, Count, Field, Form, Plan};
+use scalar_types::{Order, read_num};
 
 /// The most fields of a layout.
 pub const FIELD_LIMIT: usize = 4096;
 
-/// The most fields of a layout for which little room is made.
+/// The most varied fields of a walk for which little room is made.
 pub const FEW_FIELDS: usize = 64;
 
 /// What a walk over some fields found.
@@ -17,41 +23,154 @@ pub const FEW_FIELDS: usize = 64;
 pub struct Walked {
     /// Where the fields end.
     pub at: usize,
-    pub links: u64,
     /// The texts spelled by a length of 0 alone.
     pub zero_texts: u64,
 }
 
-/// Walks over these fields, with room for the number of each.
+/// Walks over the first k fields, with room for where each varied one among them ends.
 pub fn walk(
-    fields: &[Field],
+    plan: &Plan,
+    k: usize,
     order: Order,
     body: &[u8],
-    numbers: &mut [u64],
+    ends: &mut [usize],
 ) -> Result<Walked, BodyFault>
-    requires few { length fields.now ≤ 4096 }
-    requires room { length fields.now ≤ length numbers.old }
-    ensures { TellsWalk order fields.now body.now numbers.new result }
+    requires fields { k ≤ length plan.now }
+    requires room { (mark_of plan.now k).varied ≤ length ends.old }
+    ensures { TellsReached order plan.now body.now k k ends.new result }
 {
-    let mut at = 0;
-    let mut links = 0;
+    let count = plan.mark(k).varied as usize;
     let mut zero_texts = 0;
-    for (i, field) in fields.iter().enumerate() {
-        match field_at(order, field, &numbers[..i], &body[at..]) {
-            Ok(spelled) => {
-                numbers[i] = spelled.number;
-                at += spelled.length;
-                links += spelled.links;
-                zero_texts += spelled.zero_texts;
+    for (j, each) in plan.varied()[..count].iter().enumerate() {
+        match pass(plan, *each as usize, order, body, ends, zero_texts) {
+            Ok(walked) => {
+                ends[j] = walked.at;
+                zero_texts = walked.zero_texts;
             }
-            Err(reason) => return Err(fault(i, reason)),
+            Err(fault) => return Err(fault),
         }
     }
-    Ok(Walked {
-        at,
-        links,
-        zero_texts,
-    })
+    match start_of(plan, k, body, ends) {
+        Ok(at) => Ok(Walked { at, zero_texts }),
+        Err(fault) => Err(fault),
+    }
+}
+
+/// Walks over field k, which is varied, after the varied fields before it, which have so many texts of a length of 0 alone.
+fn pass(
+    plan: &Plan,
+    k: usize,
+    order: Order,
+    body: &[u8],
+    ends: &[usize],
+    zero_texts: u64,
+) -> Result<Walked, BodyFault>
+    requires field { (f : Field) × (slice_get plan.now k ≡ Some f) × (is_varied f ≡ true) }
+    requires walked { IsWalked order plan.now body.now (mark_of plan.now k).varied ends.now zero_texts }
+    ensures { TellsReached order plan.now body.now (k + 1) k ends.now result }
+{
+    let start = match start_of(plan, k, body, ends) {
+        Ok(start) => start,
+        Err(fault) => return Err(fault),
+    };
+    let field = &plan.fields()[k];
+    let rest = &body[start..];
+    let count = count_at(plan, k, order, body, ends, rest.len() + 1);
+    match varied_at(order, field, count, rest) {
+        Ok(spelled) => Ok(Walked {
+            at: start + spelled.length,
+            zero_texts: zero_texts + spelled.zero_texts,
+        }),
+        Err(reason) => Err(fault(k, reason)),
+    }
+}
+
+/// The items of field k, or the cap where that is less, by the numbers that stand in the fields before it.
+fn count_at(plan: &Plan, k: usize, order: Order, body: &[u8], ends: &[usize], cap: usize) -> usize
+    requires field { k < length plan.now }
+    requires places { ArePlaces order plan.now body.now k ends.now }
+    ensures { (f : Field) (numbers : List ℕ) → slice_get plan.now k ≡ Some f → AreNumbers order plan.now body.now k numbers → result ≡ min (item_count numbers f.counts) cap }
+{
+    let counts = plan.fields()[k].counts.as_slice();
+    let mut count = cap.min(1);
+    for each in counts {
+        count = capped_product(count, extent_at(plan, k, order, body, ends, *each), cap);
+    }
+    count
+}
+
+/// The items of field k along one dimension.
+fn extent_at(plan: &Plan, k: usize, order: Order, body: &[u8], ends: &[usize], each: Count) -> u64
+    requires field { k < length plan.now }
+    requires places { ArePlaces order plan.now body.now k ends.now }
+    requires earlier { IsEarlier k each }
+    ensures { (numbers : List ℕ) → AreNumbers order plan.now body.now k numbers → result ≡ extent_of numbers each }
+{
+    match each {
+        Count::Fixed(n) => u64::from(n),
+        Count::Of(i) => {
+            let start = place(plan.mark(i as usize), ends);
+            number_at(order, &plan.fields()[i as usize], &body[start..])
+        }
+    }
+}
+
+/// The number that a field at the front of the bytes is, or 0 where it is none.
+pub fn number_at(order: Order, field: &Field, bytes: &[u8]) -> u64
+    requires { (width : ℕ) → fixed_width field.now.form field.now.counts ≡ Some width → width ≤ length bytes.now }
+    ensures { result ≡ number_at order field.now.form field.now.counts bytes.now }
+{
+    if !field.counts.is_empty() {
+        return 0;
+    }
+    match field.form {
+        Form::Number(width) => read_num(order, width, bytes),
+        _ => 0,
+    }
+}
+
+/// Where field k begins, or the fields end, after a walk over the varied fields before it. All fields before it must be whole.
+fn start_of(plan: &Plan, k: usize, body: &[u8], ends: &[usize]) -> Result<usize, BodyFault>
+    requires field { k ≤ length plan.now }
+    requires walked { HasWalked plan.now body.now (mark_of plan.now k).varied ends.now }
+    ensures { (order : Order) (zero_texts : ℕ) → IsWalked order plan.now body.now (mark_of plan.now k).varied ends.now zero_texts → TellsStart order plan.now body.now k ends.now zero_texts result }
+{
+    let at = place(plan.mark(k), ends);
+    if at <= body.len() {
+        return Ok(at);
+    }
+    Err(fault(cut_field(plan, k, body, ends), BodyReason::BodyShort))
+}
+
+/// The field before field k that the body's end cuts, where k begins after that end.
+fn cut_field(plan: &Plan, k: usize, body: &[u8], ends: &[usize]) -> usize
+    requires field { k ≤ length plan.now }
+    requires walked { HasWalked plan.now body.now (mark_of plan.now k).varied ends.now }
+    requires after { length body.now < place_of ends.now (mark_of plan.now k) }
+    ensures before { result < k }
+    ensures same { (mark_of plan.now result).varied ≡ (mark_of plan.now k).varied }
+    ensures begins { place_of ends.now (mark_of plan.now result) ≤ length body.now }
+    ensures cut { length body.now < place_of ends.now (mark_of plan.now (result + 1)) }
+{
+    let mut i = k - 1;
+    while place(plan.mark(i), ends) > body.len() {
+        i -= 1;
+    }
+    i
+}
+
+/// The place that a mark tells, by the ends of the varied fields.
+pub fn place(mark: Mark, ends: &[usize]) -> usize
+    requires room { mark.varied ≤ length ends.now }
+    requires below { end_of ends.now mark.varied < 2 ^ 63 }
+    ensures { result ≡ place_of ends.now mark }
+{
+    let end = if mark.varied == 0 {
+        0
+    } else {
+        ends[mark.varied as usize - 1]
+    };
+    end + mark.skip as usize
 }
 
 /// The fault at a field.

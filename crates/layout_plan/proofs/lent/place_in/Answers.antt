@@ -1,21 +1,32 @@
-use Rattle.std.proofs.Common.{arith, subst}
-use Rattle.layout_plan.specs.Walking.{TellsWalk}
-use Rattle.layout_plan.specs.Spelled.{Tells}
-use Rattle.layout_plan.proofs.LentLemmas.{placed, walk-finds, field-finds}
-use Rattle.layout_plan.proofs.WalkLemmas.{Tells-rest}
+use Rattle.std.proofs.Common.{◌+◌, arith, subst}
+use Rattle.layout_plan.specs.Walking.{TellsReached}
+use Rattle.layout_plan.proofs.ReachLemmas.{ArePlaces-at}
+use Rattle.layout_plan.proofs.LentLemmas.{placed, reached-forward, reached-found}
 use Rattle.layout_plan.proofs.lent.place_in.Goals as goal
 
-pub unwrap-start-requires : goal.unwrap-start-requires
-unwrap-start-requires c =
-    walk-finds c.args.order c.args.fields.now c.args.body.now c.args.k c.walk.new.numbers c.walk.result c.requires.layout.sound c.requires.body (omega arith) c.walk.ensures
+pub unwrap-end-requires : goal.unwrap-end-requires
+unwrap-end-requires c =
+    reached-found c.args.order c.args.plan.now c.args.body.now (c.args.field + 1) (c.args.field + 1) c.walk.new.ends c.walk.result c.mark-mark.ensures.layout.sound c.requires.body c.walk.ensures
 
-pub unwrap-spelled-requires : goal.unwrap-spelled-requires
-unwrap-spelled-requires c =
-    let walked = subst (TellsWalk c.args.order _ c.args.body.now c.walk.new.numbers) c.unwrap-start.ensures c.walk.ensures in
-    field-finds c.args.order c.args.fields.now c.args.body.now c.args.k c.walk.new.numbers c.unwrap-start.result c.index-fields-k.result c.field_at.result c.requires.layout.sound c.requires.body (omega arith) walked c.index-fields-k.is (Tells-rest c.args.order _ c.index-fields-k.result c.args.body.now c.unwrap-start.result.at c.field_at.result c.field_at.ensures)
+pub place-start-requires-clause-room : goal.place-start-requires-clause-room
+place-start-requires-clause-room c =
+    let told = subst (TellsReached c.args.order c.args.plan.now c.args.body.now (c.args.field + 1) (c.args.field + 1) c.walk.new.ends) c.unwrap-end.ensures c.walk.ensures in
+    (ArePlaces-at c.args.order c.args.plan.now c.args.body.now (c.args.field + 1) c.args.field c.walk.new.ends c.mark-mark.result 0 told.1 (omega arith) c.mark-mark.ensures.mark).room
+
+pub place-start-requires-clause-below : goal.place-start-requires-clause-below
+place-start-requires-clause-below c =
+    let told = subst (TellsReached c.args.order c.args.plan.now c.args.body.now (c.args.field + 1) (c.args.field + 1) c.walk.new.ends) c.unwrap-end.ensures c.walk.ensures in
+    let known = ArePlaces-at c.args.order c.args.plan.now c.args.body.now (c.args.field + 1) c.args.field c.walk.new.ends c.mark-mark.result 0 told.1 (omega arith) c.mark-mark.ensures.mark in
+    omega (arith, known.below)
+
+pub overflow_sub-result : goal.overflow_sub-result
+overflow_sub-result c =
+    let told = subst (TellsReached c.args.order c.args.plan.now c.args.body.now (c.args.field + 1) (c.args.field + 1) c.walk.new.ends) c.unwrap-end.ensures c.walk.ensures in
+    let known = ArePlaces-at c.args.order c.args.plan.now c.args.body.now (c.args.field + 1) c.args.field c.walk.new.ends c.mark-mark.result c.place-start.result told.1 (omega arith) c.mark-mark.ensures.mark in
+    reached-forward c.args.order c.args.plan.now c.args.body.now c.args.field c.place-start.result c.unwrap-end.result.at known.zero_texts c.unwrap-end.result.zero_texts c.requires.field (known.here c.place-start.ensures) told.0
 
 pub returns : goal.returns
 returns c =
-    let walked = subst (TellsWalk c.args.order _ c.args.body.now c.walk.new.numbers) c.unwrap-start.ensures c.walk.ensures in
-    let told = Tells-rest c.args.order _ c.index-fields-k.result c.args.body.now c.unwrap-start.result.at c.field_at.result c.field_at.ensures in
-    placed c.args.order c.args.fields.now c.args.body.now c.args.k c.walk.new.numbers c.unwrap-start.result c.index-fields-k.result c.unwrap-spelled.result c.requires.layout.sound c.requires.body (omega arith) walked c.index-fields-k.is (subst (Tells _ c.index-fields-k.result.form _) c.unwrap-spelled.ensures told)
+    let told = subst (TellsReached c.args.order c.args.plan.now c.args.body.now (c.args.field + 1) (c.args.field + 1) c.walk.new.ends) c.unwrap-end.ensures c.walk.ensures in
+    let known = ArePlaces-at c.args.order c.args.plan.now c.args.body.now (c.args.field + 1) c.args.field c.walk.new.ends c.mark-mark.result c.place-start.result told.1 (omega arith) c.mark-mark.ensures.mark in
+    placed c.args.order c.args.plan.now c.args.body.now c.args.field c.place-start.result c.unwrap-end.result.at known.zero_texts c.unwrap-end.result.zero_texts c.mark-mark.ensures.layout.sound c.requires.field (known.here c.place-start.ensures) told.0

@@ -1,4 +1,4 @@
-use Rattle.std.proofs.Common.{◌<◌, length, take, get_or, sym, ap, ◌∙◌, arith}
+use Rattle.std.proofs.Common.{◌<◌, length, take, get_or, Some, sym, ap, ◌∙◌, arith}
 use Rattle.std.proofs.lemmas.List.{length-take-le}
 use Rattle.layout_plan.proofs.LayoutLemmas.{IsCompiled-none, IsCompiled-more, IsCompiled-stops, IsCompiled-all, layout_of-IsLayout}
 use Rattle.layout_plan.proofs.plan.compile.Goals as goal
@@ -20,12 +20,13 @@ loop-i-preserved c =
     let item = c.element-item.is ∙ ap (λ xs. get_or xs c.loop-i.i c.element-item.result) c.as_slice-element-items.ensures in
     rw c.in_ok-push.ensures.ok (IsCompiled-more c.args.entry.now.elements c.loop-i.i c.loop-i.fields c.loop-i.names c.note_name.new.names c.element-item.result c.in-Some.field c.loop-i.invariant lt item (sym c.in_ok-field.ensures ∙ c.in-Some.is) (c.in_ok-note_name.ensures (take c.loop-i.i c.args.entry.now.elements) (length-take-le c.loop-i.i c.args.entry.now.elements (omega arith)) c.loop-i.invariant.held))
 
-pub invariant_of-result : goal.invariant_of-result
-invariant_of-result c =
+pub planned-requires : goal.planned-requires
+planned-requires c =
     let size = ap length c.as_slice-element-items.ensures in
     layout_of-IsLayout c.args.entry.now.elements c.loop-i.fields (IsCompiled-all c.args.entry.now.elements c.loop-i.i c.loop-i.fields c.loop-i.names c.loop-i.invariant (omega (arith, size))) c.requires
 
 pub returns : goal.returns
 returns c =
     let size = ap length c.as_slice-element-items.ensures in
-    sym (IsCompiled-all c.args.entry.now.elements c.loop-i.i c.loop-i.fields c.loop-i.names c.loop-i.invariant (omega (arith, size)))
+    ap Some c.in_ok-planned.ensures
+    ∙ sym (IsCompiled-all c.args.entry.now.elements c.loop-i.i c.loop-i.fields c.loop-i.names c.loop-i.invariant (omega (arith, size)))

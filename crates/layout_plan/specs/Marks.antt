@@ -1,0 +1,66 @@
+-- Where fields stand: marks that tell a field's place from the ends of the fields whose bytes a body alone tells.
+use Rattle.std.specs.Prelude.{◌≡◌, ℕ, zero, suc, ◌+◌, ◌*◌, Bool, if◌then◌else◌, List, [], ◌∷◌, Option, Some, None, is_none, slice_index}
+use Rattle.scalar_types.specs.Number.{size_of}
+use Rattle.layout_plan.specs.declared.fields.Form.{Form}
+use Rattle.layout_plan.specs.declared.fields.Form.TheVariants.{Number, Pair, Link}
+use Rattle.layout_plan.specs.declared.fields.Count.{Count}
+use Rattle.layout_plan.specs.declared.fields.Field.{Field}
+use Rattle.layout_plan.specs.declared.marks.Mark.{Mark}
+use Rattle.layout_plan.specs.Layout.{IsLayout}
+use Rattle.layout_plan.specs.Links.{is_link}
+
+-- the bytes of a field of fixed width: one without dimension that is no text
+abbrev pub fixed_width : Form → List Count → Option ℕ
+fixed_width (Number width) [] = Some (size_of width)
+fixed_width (Pair width) [] = Some (2 * size_of width)
+fixed_width Link [] = Some 6
+fixed_width form counts = None
+
+-- a varied field: a text or one with dimensions
+abbrev pub is_varied : Field → Bool
+is_varied f = is_none (fixed_width f.form f.counts)
+
+-- The numbers of the fields that are such, in their order. The first field's number is i.
+abbrev pub numbers_where : (Field → Bool) → ℕ → List Field → List ℕ
+numbers_where such i [] = []
+numbers_where such i (f ∷ fs) =
+    if such f then i ∷ numbers_where such (i + 1) fs else numbers_where such (i + 1) fs
+
+-- the mark after a field of this width: the same varied fields stand before it, and so many more bytes; or one more varied field
+abbrev pub past : Mark → Option ℕ → Mark
+past mark (Some width) = record { varied = mark.varied; skip = mark.skip + width }
+past mark None = record { varied = mark.varied + 1; skip = 0 }
+
+-- the marks of the fields and of the place after them, from the first's mark
+abbrev pub marks_from : Mark → List Field → List Mark
+marks_from mark [] = mark ∷ []
+marks_from mark (f ∷ fs) = mark ∷ marks_from (past mark (fixed_width f.form f.counts)) fs
+
+-- the mark of the k-th of the fields, from the first's mark
+abbrev pub mark_from : Mark → List Field → ℕ → Mark
+mark_from mark fields zero = mark
+mark_from mark [] (suc k) = mark
+mark_from mark (f ∷ fs) (suc k) = mark_from (past mark (fixed_width f.form f.counts)) fs k
+
+-- no varied field and no byte stand before the first field
+abbrev pub first_mark : Mark
+first_mark = record { varied = 0; skip = 0 }
+
+-- the mark of field k, or of the place after the fields
+abbrev pub mark_of : List Field → ℕ → Mark
+mark_of fields k = mark_from first_mark fields k
+
+-- the place that a mark tells, by the ends of the varied fields
+abbrev pub end_of : List ℕ → ℕ → ℕ
+end_of ends zero = 0
+end_of ends (suc k) = slice_index ends k
+
+abbrev pub place_of : List ℕ → Mark → ℕ
+place_of ends mark = end_of ends mark.varied + mark.skip
+
+-- what a plan keeps of its fields
+pub record ArePlanned (fields : List Field) (varied : List ℕ) (marks : List Mark) (links : List ℕ) : Type 0 where
+  pub layout : IsLayout fields
+  pub varied_are : varied ≡ numbers_where is_varied 0 fields
+  pub marks_are : marks ≡ marks_from first_mark fields
+  pub links_are : links ≡ numbers_where is_link 0 fields
