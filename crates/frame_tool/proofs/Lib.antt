@@ -6,3 +6,4 @@ mod Parting
 mod Replies
 mod Structures
 mod Walking
+pub mod Checking

@@ -1,30 +1,67 @@
 -- Words over files have one reply that is due.
-use Rattle.std.proofs.Common.{◌≡◌, ℕ, List, Option, Some, None, refl, sym, ap, ◌∙◌}
+use Rattle.std.proofs.Common.{◌≡◌, ℕ, ◌⊎◌, List, Option, Some, None, inl, inr, refl, sym, ap, ◌∙◌}
 use Rattle.frame_outside.specs.Shelf.{Files}
+use Rattle.item_reader.specs.declared.fault.Fault.{Fault}
+use Rattle.item_reader.specs.Fault.{IsFirstFault}
+use Rattle.item_reader.specs.Laws.{WellFormed}
+use Rattle.item_reader.proofs.OneAnswer.{each_judged, not_both, faults_unique}
+use Rattle.item_reader.proofs.Prefixes.{items_unique}
 use Rattle.frame_tool.specs.declared.outcome.Outcome.TheVariants.{Usage, Device}
-use Rattle.frame_tool.specs.Due.{Reply, reply_with, walk_reply, IsWalkDue, IsCommandDue, EachRunHasADueReply, NoRunHasTwoDueReplies}
-use Rattle.frame_tool.specs.Words.{Form, WalkFile, command_of}
+use Rattle.frame_tool.specs.declared.judgement.Finding.{Finding}
+use Rattle.frame_tool.specs.declared.judgement.Finding.TheVariants.{Accepted, Refused}
+use Rattle.frame_tool.specs.Check.{IsFinding}
+use Rattle.frame_tool.specs.Due.{Reply, reply_with, walk_reply, check_reply, IsFileDue, IsCommandDue, EachRunHasADueReply, NoRunHasTwoDueReplies}
+use Rattle.frame_tool.specs.Words.{Form, WalkFile, CheckFile, command_of}
 use Rattle.frame_tool.proofs.OneVerdict.{a_verdict, no_two_verdicts}
 
-walk_due : (held : Option (List ℕ)) → (reply : Reply) × IsWalkDue held reply
-walk_due None = (reply_with Device, refl)
-walk_due (Some file) =
-    let found = a_verdict file in
-    (walk_reply found.0, (found.0, found.1, refl))
+-- of each file something is found
+abbrev EachHas : {A : Type 0} → (List ℕ → A → Type 0) → Type 0
+EachHas {A} is = (file : List ℕ) → (a : A) × is file a
 
-pub walk_dues : (held : Option (List ℕ)) (first second : Reply) → IsWalkDue held first → IsWalkDue held second → first ≡ second
-walk_dues None first second left right = left ∙ sym right
-walk_dues (Some file) first second (verdict, is, left) (other, also, right) =
-    left ∙ ap walk_reply (no_two_verdicts file verdict other is also) ∙ sym right
+-- and no two things
+abbrev pub NoneHasTwo : {A : Type 0} → (List ℕ → A → Type 0) → Type 0
+NoneHasTwo {A} is = (file : List ℕ) (a b : A) → is file a → is file b → a ≡ b
+
+-- a file has one finding
+finding_by : (file : List ℕ) → WellFormed file ⊎ ((fault : Fault) × IsFirstFault file fault) → (finding : Finding) × IsFinding file finding
+finding_by file (inl (order, items, last, is)) = (Accepted order _ _ _, (items, last, is, refl, refl, refl))
+finding_by file (inr (fault, is)) = (Refused fault, is)
+
+a_finding : EachHas IsFinding
+a_finding file = finding_by file (each_judged file)
+
+pub no_two_findings : NoneHasTwo IsFinding
+no_two_findings file (Accepted order frames records bytes) (Accepted o f r b) (items, last, is, fs, rs, bs) (others, end, also, gs, ss, cs) =
+    let same = items_unique file order o items others last end is also in
+    let e : order ≡ o = same.0 in
+    let l : last ≡ end = same.2 in
+    cc
+no_two_findings file (Accepted order frames records bytes) (Refused fault) (items, last, is, fs, rs, bs) also = absurd (not_both file fault (order, items, last, is) also)
+no_two_findings file (Refused fault) (Accepted order frames records bytes) is (items, last, also, fs, rs, bs) = absurd (not_both file fault (order, items, last, also) is)
+no_two_findings file (Refused fault) (Refused other) is also = ap Refused (faults_unique file fault other is also)
+
+file_due : {A : Type 0} (is : List ℕ → A → Type 0) (reply_of : A → Reply) → EachHas is → (held : Option (List ℕ)) → (reply : Reply) × IsFileDue is reply_of held reply
+file_due is reply_of each None = (reply_with Device, refl)
+file_due is reply_of each (Some file) =
+    let found = each file in
+    (reply_of found.0, (found.0, found.1, refl))
+
+pub file_dues : {A : Type 0} (is : List ℕ → A → Type 0) (reply_of : A → Reply) → NoneHasTwo is → (held : Option (List ℕ)) (first second : Reply) →
+    IsFileDue is reply_of held first → IsFileDue is reply_of held second → first ≡ second
+file_dues is reply_of alone None first second left right = left ∙ sym right
+file_dues is reply_of alone (Some file) first second (a, holds, left) (b, also, right) =
+    left ∙ ap reply_of (alone file a b holds also) ∙ sym right
 
 command_due : (files : Files) (command : Option Form) → (reply : Reply) × IsCommandDue files command reply
 command_due files None = (reply_with Usage, refl)
-command_due files (Some (WalkFile file)) = walk_due (files file)
+command_due files (Some (WalkFile file)) = file_due _ walk_reply a_verdict (files file)
+command_due files (Some (CheckFile file)) = file_due _ check_reply a_finding (files file)
 
 command_dues : (files : Files) (command : Option Form) (first second : Reply) → IsCommandDue files command first
     → IsCommandDue files command second → first ≡ second
 command_dues files None first second left right = left ∙ sym right
-command_dues files (Some (WalkFile file)) first second left right = walk_dues (files file) first second left right
+command_dues files (Some (WalkFile file)) first second left right = file_dues _ walk_reply no_two_verdicts (files file) first second left right
+command_dues files (Some (CheckFile file)) first second left right = file_dues _ check_reply no_two_findings (files file) first second left right
 
 pub a_due_reply : EachRunHasADueReply
 a_due_reply files words = command_due files (command_of words)

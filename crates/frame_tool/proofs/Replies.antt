@@ -5,11 +5,9 @@ use Rattle.frame_outside.specs.Shelf.{Outside, Files, Told}
 use Rattle.frame_outside.specs.Sink.{Output, Appends}
 use Rattle.frame_tool.specs.declared.outcome.Outcome.{Outcome}
 use Rattle.frame_tool.specs.declared.outcome.Outcome.TheVariants.{Device, NoMemory}
-use Rattle.frame_tool.specs.declared.verdict.Verdict.{Verdict}
-use Rattle.frame_tool.specs.Due.{Reply, IsWalkDue, Prints, AppendsFront, reply_with, walk_reply}
-use Rattle.frame_tool.specs.Walk.{IsVerdict}
+use Rattle.frame_tool.specs.Due.{Reply, IsFileDue, Prints, AppendsFront, reply_with}
 use Rattle.frame_tool.specs.WalkSteps.{ReadsOneFile}
-use Rattle.frame_tool.proofs.OneReply.{walk_dues}
+use Rattle.frame_tool.proofs.OneReply.{NoneHasTwo, file_dues}
 
 -- a whole text is a front of it
 whole_front : (text : List ℕ) (old new : Output) → Appends old new text → AppendsFront old new text
@@ -24,23 +22,24 @@ prints_whole Device text old new appends = whole_front text old new appends
 prints_whole NoMemory text old new appends = whole_front text old new appends
 prints_whole _ text old new appends = appends
 
-walk_due_by : (held : Option (List ℕ)) (verdict : Verdict) → Told held (λ file. IsVerdict file verdict) → (held ≡ None → ⊥) → IsWalkDue held (walk_reply verdict)
-walk_due_by None verdict told missing = absurd (missing refl)
-walk_due_by (Some file) verdict told missing = (verdict, told file refl, refl)
+due_by : {A : Type 0} (is : List ℕ → A → Type 0) (reply_of : A → Reply) (held : Option (List ℕ)) (a : A) → Told held (λ file. is file a) → (held ≡ None → ⊥) → IsFileDue is reply_of held (reply_of a)
+due_by is reply_of None a told missing = absurd (missing refl)
+due_by is reply_of (Some file) a told missing = (a, told file refl, refl)
 
--- the reply that is due to `walk` is that of the verdict
-pub due_is_walked : (held : Option (List ℕ)) (verdict : Verdict) (reply : Reply) → Told held (λ file. IsVerdict file verdict) → (held ≡ None → ⊥) →
-    IsWalkDue held reply → reply ≡ walk_reply verdict
-due_is_walked held verdict reply told missing due = walk_dues held reply (walk_reply verdict) due (walk_due_by held verdict told missing)
+-- the reply that is due is that of what was found
+pub due_is_found : {A : Type 0} (is : List ℕ → A → Type 0) (reply_of : A → Reply) → NoneHasTwo is → (held : Option (List ℕ)) (a : A) (reply : Reply) → Told held (λ file. is file a) → (held ≡ None → ⊥) →
+    IsFileDue is reply_of held reply → reply ≡ reply_of a
+due_is_found is reply_of alone held a reply told missing due =
+    file_dues is reply_of alone held reply (reply_of a) due (due_by is reply_of held a told missing)
 
-missed_due : (held : Option (List ℕ)) (old new : ℕ) → (IsSome held → new ≡ old) → old < new → IsWalkDue held (reply_with Device)
-missed_due None old new kept rose = refl
-missed_due (Some file) old new kept rose = absurd (omega (arith, kept refl))
+missed_due : {A : Type 0} (is : List ℕ → A → Type 0) (reply_of : A → Reply) (held : Option (List ℕ)) (old new : ℕ) → (IsSome held → new ≡ old) → old < new → IsFileDue is reply_of held (reply_with Device)
+missed_due is reply_of None old new kept rose = refl
+missed_due is reply_of (Some file) old new kept rose = absurd (omega (arith, kept refl))
 
 -- a name was missed only where it is not held
-pub misses_due : (old new : Outside) (files : Files) (name : List ℕ) → ReadsOneFile old new name → old.files ≡ Some files → old.misses < new.misses →
-    IsWalkDue (files name) (reply_with Device)
-misses_due old new files name reads told rose = missed_due (files name) old.misses new.misses (reads.missed files told) rose
+pub misses_due : {A : Type 0} (is : List ℕ → A → Type 0) (reply_of : A → Reply) (old new : Outside) (files : Files) (name : List ℕ) → ReadsOneFile old new name → old.files ≡ Some files → old.misses < new.misses →
+    IsFileDue is reply_of (files name) (reply_with Device)
+misses_due is reply_of old new files name reads told rose = missed_due is reply_of (files name) old.misses new.misses (reads.missed files told) rose
 
 pub no_error : {T E : Type 0} (value : T) (error : E) → IsErrOf (Ok value) error → ⊥
 no_error value error same = cc

@@ -10,8 +10,11 @@ use Rattle.frame_tool.specs.declared.outcome.Outcome.TheVariants.{Done, Fault, U
 use Rattle.frame_tool.specs.declared.verdict.Verdict.{Verdict}
 use Rattle.frame_tool.specs.declared.verdict.Verdict.TheVariants.{Sound, Wrong}
 use Rattle.frame_tool.specs.Outcome.{line_of}
-use Rattle.frame_tool.specs.Words.{Form, WalkFile, command_of}
+use Rattle.frame_tool.specs.Words.{Form, WalkFile, CheckFile, command_of}
+use Rattle.frame_tool.specs.declared.judgement.Finding.{Finding}
+use Rattle.frame_tool.specs.declared.judgement.Finding.TheVariants.{Accepted, Refused}
 use Rattle.frame_tool.specs.Walk.{IsVerdict}
+use Rattle.frame_tool.specs.Check.{IsFinding}
 
 pub record Reply : Type 0 where
   pub outcome : Outcome
@@ -33,14 +36,32 @@ abbrev pub walk_reply : Verdict → Reply
 walk_reply (Sound order count) = record { outcome = Done; text = walk_text order count }
 walk_reply (Wrong at reason) = reply_with (Fault 0 at 0 reason)
 
--- the reply that is due to `walk` over the bytes of its file; none are held where the name is not
+-- the text of an accepted file
+abbrev pub check_text : Order → ℕ → ℕ → ℕ → List ℕ
+check_text order frames records bytes =
+    codes "accepted\norder: " ++ (order_name order ++ (codes "\nframes: " ++ (decimal frames ++ (codes "\nrecords: " ++ (decimal records ++ (codes "\nbytes: " ++ (decimal bytes ++ codes "\n")))))))
+
+-- the reply of `check` by what is found
+abbrev pub check_reply : Finding → Reply
+check_reply (Accepted order frames records bytes) = record { outcome = Done; text = check_text order frames records bytes }
+check_reply (Refused fault) = reply_with (Fault 0 fault.at fault.field fault.reason)
+
+-- The reply that is due over the bytes of a file of which this is to be found; none are held where the name is not.
+abbrev pub IsFileDue : {A : Type 0} → (List ℕ → A → Type 0) → (A → Reply) → Option (List ℕ) → Reply → Type 0
+IsFileDue is reply_of None reply = reply ≡ reply_with Device
+IsFileDue {A} is reply_of (Some file) reply = (a : A) × is file a × (reply ≡ reply_of a)
+
+-- the reply that is due to `walk`, and to `check`
 abbrev pub IsWalkDue : Option (List ℕ) → Reply → Type 0
-IsWalkDue None reply = reply ≡ reply_with Device
-IsWalkDue (Some file) reply = (verdict : Verdict) × IsVerdict file verdict × (reply ≡ walk_reply verdict)
+IsWalkDue = IsFileDue IsVerdict walk_reply
+
+abbrev pub IsCheckDue : Option (List ℕ) → Reply → Type 0
+IsCheckDue = IsFileDue IsFinding check_reply
 
 abbrev pub IsCommandDue : Files → Option Form → Reply → Type 0
 IsCommandDue files None reply = reply ≡ reply_with Usage
 IsCommandDue files (Some (WalkFile file)) reply = IsWalkDue (files file) reply
+IsCommandDue files (Some (CheckFile file)) reply = IsCheckDue (files file) reply
 
 -- the reply that is due to words over the files that are held
 abbrev pub IsDue : Files → List (List ℕ) → Reply → Type 0

@@ -1,6 +1,6 @@
-pub mod Reason
 pub mod Outcome
 pub mod Words
 pub mod Walk
 pub mod WalkSteps
+pub mod Check
 pub mod Due

@@ -3,7 +3,7 @@ use Rattle.std.specs.Prelude.{ℕ, List, [], ◌++◌, codes}
 use Rattle.std.specs.Fmt.{decimal}
 use Rattle.frame_tool.specs.declared.outcome.Outcome.{Outcome}
 use Rattle.frame_tool.specs.declared.outcome.Outcome.TheVariants.{Done, Same, Different, Fault, NoChannel, NoTable, TableLies, Clash, OutputLimit, FramesLimit, Usage, Device, NoMemory}
-use Rattle.frame_tool.specs.Reason.{number_of, name_of}
+use Rattle.item_reader.specs.Reason.{number_of, name_of}
 
 abbrev pub status_of : Outcome → ℕ
 status_of Done = 0

@@ -4,18 +4,12 @@ use Rattle.std.specs.List.{concat}
 use Rattle.scalar_types.specs.declared.Order.{Order}
 use Rattle.frame_head.specs.Header.{header_of}
 use Rattle.frame_head.specs.Structure.{IsStructure, common_of}
-use Rattle.frame_tool.specs.declared.reason.Reason.{Reason}
-use Rattle.frame_tool.specs.declared.reason.Reason.TheVariants.{CutHeader, BadHeader, CutRecord, LengthSmall, RecordLimit, FileLimit}
+use Rattle.item_reader.specs.declared.reason.Reason.{Reason}
+use Rattle.item_reader.specs.declared.reason.Reason.TheVariants.{CutHeader, BadHeader, CutRecord, LengthSmall, RecordLimit, FileLimit}
 use Rattle.frame_tool.specs.declared.verdict.Verdict.{Verdict}
 use Rattle.frame_tool.specs.declared.verdict.Verdict.TheVariants.{Sound, Wrong}
-use Rattle.frame_tool.specs.Reason.{number_of}
-
--- the most bytes of a structure, and of a file
-abbrev pub record_limit : ℕ
-record_limit = 4294967295
-
-abbrev pub file_limit : ℕ
-file_limit = 4611686018427387904
+use Rattle.item_reader.specs.Reason.{number_of}
+pub use Rattle.item_reader.specs.Structure.{record_limit, file_limit}
 
 -- a structure that may stand at a place
 pub record MayStand (order : Order) (place : ℕ) (structure : List ℕ) : Type 0 where

@@ -4,8 +4,9 @@ ghost use Rattle.std.specs.Prelude.{◌≡◌, ◌≢◌, IfOk};
 ghost use Rattle.std.specs.String.{string_bytes};
 ghost use Rattle.frame_outside.specs.Counts.{Rose};
 ghost use Rattle.frame_tool.specs.Outcome.{line_of};
-ghost use Rattle.frame_tool.specs.Due.{IsAnswer, Prints, order_name, walk_text, walk_reply};
+ghost use Rattle.frame_tool.specs.Due.{IsAnswer, Prints, order_name, walk_text, walk_reply, check_text, check_reply};
 
+use crate::judgement::Finding;
 use crate::outcome::Outcome;
 use crate::verdict::Verdict;
 use frame_outside::{ShelfError, Sink};
@@ -49,6 +50,52 @@ pub fn answer_walk<O: Sink>(alloc: Global, out: &mut O, verdict: Verdict) -> Out
     }
 }
 
+/// Prints the text of `check` by what was found, and gives the answer.
+pub fn answer_check<O: Sink>(alloc: Global, out: &mut O, finding: Finding) -> Outcome
+    ensures answer { IsAnswer result (check_reply finding).outcome }
+    ensures text { Prints result (check_reply finding).text (O.output out.old) (O.output out.new) }
+    ensures device { result ≡ Outcome.Device → Rose (O.output out.old).faults (O.output out.new).faults }
+{
+    match finding {
+        Finding::Accepted {
+            order,
+            frames,
+            records,
+            bytes,
+        } => match accepted(alloc, order, frames, records, bytes) {
+            Ok(text) => print(alloc, out, Outcome::Done, text.as_str()),
+            Err(_) => Outcome::NoMemory,
+        },
+        Finding::Refused(fault) => answer_line(
+            alloc,
+            out,
+            Outcome::Fault {
+                file: 0,
+                at: fault.at,
+                field: fault.field,
+                reason: fault.reason,
+            },
+        ),
+    }
+}
+
+/// The text of an accepted file.
+fn accepted(
+    alloc: Global,
+    order: Order,
+    frames: u64,
+    records: u64,
+    bytes: u64,
+) -> Result<String, AllocError>
+    ensures { IfOk result (λ text. string_bytes text ≡ check_text order frames records bytes) }
+{
+    let name = name_of_order(order);
+    format!(in alloc;
+        "accepted\norder: {name}\nframes: {frames}\nrecords: {records}\nbytes: {bytes}\n"
+    )
+}
+
+/// The text of a file that was walked over.
 fn summary(alloc: Global, order: Order, structures: u64) -> Result<String, AllocError>
     ensures { IfOk result (λ text. string_bytes text ≡ walk_text order structures) }
 {

@@ -8,6 +8,8 @@ ghost use Rattle.frame_tool.specs.Words.{command_of, form_of, texts};
 pub enum Command<'a> {
     /// `walk FILE`: judges the header and the structures' lengths.
     Walk { file: &'a str },
+    /// `check FILE`: judges the whole file.
+    Check { file: &'a str },
 }
 
 /// The command that the words are; `None` exactly where they are none.
@@ -17,10 +19,11 @@ pub fn read_words(words: &[String]) -> Option<Command<'_>>
     let [command, file] = words else {
         return None;
     };
+    let file = file.as_str();
     if command.as_str() == "walk" {
-        Some(Command::Walk {
-            file: file.as_str(),
-        })
+        Some(Command::Walk { file })
+    } else if command.as_str() == "check" {
+        Some(Command::Check { file })
     } else {
         None
     }

@@ -4,10 +4,11 @@ ghost use Rattle.std.specs.Prelude.{◌≡◌, ◌⊎◌, ◌+◌, ◌≤◌, �
 ghost use Rattle.frame_outside.specs.Counts.{Rose};
 ghost use Rattle.frame_outside.specs.Shelf.{Told};
 ghost use Rattle.frame_tool.specs.Words.{command_of, texts};
-ghost use Rattle.frame_tool.specs.Due.{Reply, IsDue, IsWalkDue, IsAnswer, Prints, reply_with};
+ghost use Rattle.frame_tool.specs.Due.{Reply, IsDue, IsWalkDue, IsCheckDue, IsAnswer, Prints, reply_with};
 ghost use Rattle.frame_tool.specs.WalkSteps.{ReadsOneFile};
 
-use crate::answer::{answer_line, answer_walk};
+use crate::answer::{answer_check, answer_line, answer_walk};
+use crate::check::check_file;
 use crate::command::{Command, read_words};
 use crate::outcome::Outcome;
 use crate::walk::walk_file;
@@ -41,6 +42,7 @@ pub fn run<S: Shelf, O: Sink>(
     match read_words(words) {
         None => answer_line(alloc, out, Outcome::Usage),
         Some(Command::Walk { file }) => run_walk(alloc, file, shelf, out),
+        Some(Command::Check { file }) => run_check(alloc, file, shelf, out),
     }
 }
 
@@ -55,6 +57,22 @@ fn run_walk<S: Shelf, O: Sink>(alloc: Global, file: &str, shelf: &mut S, out: &m
 {
     match walk_file(alloc, shelf, file) {
         Ok(verdict) => answer_walk(alloc, out, verdict),
+        Err(ShelfError::Failed) => Outcome::Device,
+        Err(ShelfError::NoMemory) => Outcome::NoMemory,
+    }
+}
+
+/// `check FILE`.
+fn run_check<S: Shelf, O: Sink>(alloc: Global, file: &str, shelf: &mut S, out: &mut O) -> Outcome
+    ensures answer { Told (S.outside shelf.old).files (λ files. (reply : Reply) → IsCheckDue (files file.now) reply → IsAnswer result reply.outcome) }
+    ensures text { Told (S.outside shelf.old).files (λ files. (reply : Reply) → IsCheckDue (files file.now) reply → Prints result reply.text (O.output out.old) (O.output out.new)) }
+    ensures command { result ≡ Outcome.Usage → ⊥ }
+    ensures device { result ≡ Outcome.Device → Rose (S.outside shelf.old).faults (S.outside shelf.new).faults ⊎ Rose (O.output out.old).faults (O.output out.new).faults }
+    ensures shelf { ReadsOneFile (S.outside shelf.old) (S.outside shelf.new) file.now }
+    ensures misses { Told (S.outside shelf.old).files (λ files. (S.outside shelf.old).misses < (S.outside shelf.new).misses → IsCheckDue (files file.now) (reply_with Outcome.Device)) }
+{
+    match check_file(alloc, shelf, file) {
+        Ok(finding) => answer_check(alloc, out, finding),
         Err(ShelfError::Failed) => Outcome::Device,
         Err(ShelfError::NoMemory) => Outcome::NoMemory,
     }

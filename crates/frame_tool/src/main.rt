@@ -5,15 +5,24 @@
 #![tactic(auto)]
 
 mod answer;
+mod check;
 mod command;
 mod dispatch;
+mod judgement;
 mod laws;
 mod outcome;
-mod reason;
+#[cfg(test)]
+mod pieces;
 #[cfg(test)]
 mod tests;
+#[cfg(test)]
+mod tests_of_check;
+#[cfg(test)]
+mod tests_of_frames;
 mod verdict;
 mod walk;
+#[cfg(test)]
+mod worked_files;
 
 use dispatch::run;
 use frame_outside::{DirShelf, StdSink};

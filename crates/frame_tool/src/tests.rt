@@ -1,66 +1,9 @@
-//! Runs over a shelf and a sink in memory: worked files with the text and the status that each gives,
-//! and calls that fail in turn.
+//! Runs of `walk` over a shelf and a sink in memory: worked files with the text and the status that each gives, and calls that
+//! fail in turn.
 
-use crate::dispatch::run;
-use frame_outside::{MemShelf, MemSink};
+use crate::worked_files::{BIG, LITTLE, Outside, WHOLE, run_over};
 use std::alloc::{AllocError, Global};
 use std::test::Fail;
-
-/// A file without a frame, 273 bytes: the header, five structures of the dictionary, and FrEndOfFile at 235.
-const LITTLE: &[u8] = b"\
-    IGWD\0\x08\0\x02\x04\x08\x04\x084\x12xV4\x12\xef\xcd\xab\x89gE#\x01\xdb\x0fI@\x18-DT\xfb!\x09@\0\0\
-    %\0\0\0\0\0\0\0\0\x01\0\0\0\0\x0c\0FrEndOfFile\0\x0b\0\x01\0\0\0\0\0\0\
-    (\0\0\0\0\0\0\0\0\x02\0\0\0\0\x08\0nFrames\0\x07\0INT_4U\0\x01\0\0\0\0\0\0\
-    '\0\0\0\0\0\0\0\0\x02\x01\0\0\0\x07\0nBytes\0\x07\0INT_8U\0\x01\0\0\0\0\0\0\
-    (\0\0\0\0\0\0\0\0\x02\x02\0\0\0\x08\0seekTOC\0\x07\0INT_8U\0\x01\0\0\0\0\0\0\
-    '\0\0\0\0\0\0\0\0\x02\x03\0\0\0\x07\0chkSum\0\x07\0INT_4U\0\x01\0\0\0\0\0\0\
-    &\0\0\0\0\0\0\0\0\x0b\0\0\0\0\0\0\0\0\x11\x01\0\0\0\0\0\0\0\0\0\0\0\0\0\0\0\0\0\0";
-
-/// The same in big-endian order.
-const BIG: &[u8] = b"\
-    IGWD\0\x08\0\x02\x04\x08\x04\x08\x124\x124Vx\x01#Eg\x89\xab\xcd\xef@I\x0f\xdb@\x09!\xfbTD-\x18\0\0\
-    \0\0\0\0\0\0\0%\0\x01\0\0\0\0\0\x0cFrEndOfFile\0\0\x0b\0\x01\0\0\0\0\0\
-    \0\0\0\0\0\0\0(\0\x02\0\0\0\0\0\x08nFrames\0\0\x07INT_4U\0\0\x01\0\0\0\0\0\
-    \0\0\0\0\0\0\0'\0\x02\0\0\0\x01\0\x07nBytes\0\0\x07INT_8U\0\0\x01\0\0\0\0\0\
-    \0\0\0\0\0\0\0(\0\x02\0\0\0\x02\0\x08seekTOC\0\0\x07INT_8U\0\0\x01\0\0\0\0\0\
-    \0\0\0\0\0\0\0'\0\x02\0\0\0\x03\0\x07chkSum\0\0\x07INT_4U\0\0\x01\0\0\0\0\0\
-    \0\0\0\0\0\0\0&\0\x0b\0\0\0\0\0\0\0\0\0\0\0\0\0\0\x01\x11\0\0\0\0\0\0\0\0\0\0\0\0";
-
-/// Which calls fail, and how many bytes one call gives.
-#[derive(Clone, Copy)]
-struct Outside {
-    most: usize,
-    shelf_call: u64,
-    sink_call: u64,
-}
-
-/// No call fails: the call of number 0 is never made.
-const WHOLE: Outside = Outside {
-    most: usize::MAX,
-    shelf_call: 0,
-    sink_call: 0,
-};
-
-/// The status and the text of a run over a shelf that holds one file, `f`.
-fn run_over(
-    alloc: Global,
-    outside: Outside,
-    file: &[u8],
-    words: &[&str],
-) -> Result<(u8, Vec<u8>), AllocError> {
-    let mut shelf = MemShelf::new(alloc);
-    shelf.with_file("f", file)?;
-    shelf.largest(outside.most.max(1));
-    shelf.fail_at(outside.shelf_call)?;
-    let mut out = MemSink::new(alloc);
-    out.fail_at(outside.sink_call)?;
-    let mut owned = Vec::new(alloc);
-    for word in words {
-        owned.push(String::from_str(alloc, word)?)?;
-    }
-    let outcome = run(alloc, owned.as_slice(), &mut shelf, &mut out);
-    Ok((outcome.status(), Vec::from_slice(alloc, out.bytes())?))
-}
 
 /// The first `size` bytes of a file, with other bytes at a place.
 fn changed(

@@ -1,6 +1,6 @@
 //! What a walk through a file finds.
 
-use crate::reason::Reason;
+use item_reader::Reason;
 use scalar_types::Order;
 
 /// The verdict of a walk.

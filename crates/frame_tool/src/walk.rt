@@ -7,18 +7,12 @@ ghost use Rattle.frame_outside.specs.SlotReader.{Draws, to_come};
 ghost use Rattle.frame_tool.specs.Walk.{IsVerdict, file_limit};
 ghost use Rattle.frame_tool.specs.WalkSteps.{IsFound, Moves, Judges, body_size_of, FindsOn, ReadsOneFile};
 
-use crate::reason::Reason;
 use crate::verdict::Verdict;
 use frame_head::{HEAD_SIZE, HEADER_SIZE, read_common, read_header};
 use frame_outside::{Failed, Shelf, ShelfError, SlotReader};
+use item_reader::{FILE_LIMIT, RECORD_LIMIT, Reason};
 use scalar_types::Order;
 use std::alloc::Global;
-
-/// The most bytes of a structure.
-const RECORD_LIMIT: u64 = 4_294_967_295;
-
-/// The most bytes of a file.
-const FILE_LIMIT: u64 = 1 << 62;
 
 /// What stands at a place after the header.
 enum Found {

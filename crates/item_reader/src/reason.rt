@@ -1,7 +1,7 @@
 //! The reasons for which a file is not accepted.
 
 ghost use Rattle.std.specs.Prelude.{◌≡◌};
-ghost use Rattle.frame_tool.specs.Reason.{number_of, name_of};
+ghost use Rattle.item_reader.specs.Reason.{number_of, name_of};
 
 /// Why a file is not accepted. Where several reasons hold at one place, the one of the least number
 /// is named.

@@ -1,0 +1,18 @@
+-- The reader is on its way through the file.
+use Rattle.std.proofs.Common.{◌≡◌, ◌-◌, None}
+use Rattle.frame_outside.specs.SlotReader.{Draws}
+use Rattle.item_reader.specs.Structure.{file_limit}
+use Rattle.item_reader.specs.Reader.{Reads}
+use Rattle.frame_tool.proofs.check.check.Given as goal
+
+abbrev pub invariant-items : goal.invariant-items
+invariant-items g l = record {
+  reads : Reads (g.S.Shelf.outside l.shelf) l.reader;
+  draws : Draws (g.S.Shelf.outside l.fn.shelf) (g.S.Shelf.outside l.shelf) l.fn.slot;
+  slot : l.reader.slot ≡ l.fn.slot;
+  last : l.reader.last ≡ None;
+  error : l.reader.error ≡ None;
+}
+
+abbrev pub decreases-items : goal.decreases-items
+decreases-items g l = file_limit - l.reader.before.place

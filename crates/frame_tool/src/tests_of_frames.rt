@@ -1,0 +1,200 @@
+//! Runs of `check` over frames and closings that may stand or may not.
+
+use crate::pieces::Piece::{Bare, Bytes, Full, Rest, Times};
+use crate::pieces::{Row, check_rows};
+use std::test::Fail;
+
+#[test]
+fn judges_frames(rt: HostRuntime) -> Result<(), Fail> {
+    let rows: [Row; 13] = [
+        (
+            "FrameH twice with one instance: 17 before 18",
+            &[Full(0, 640), Rest(569)],
+            "fault: file 0 at 640 field 0: 17 InstanceTwice\n",
+        ),
+        (
+            "FrameH twice",
+            &[Full(0, 640), Full(569, 579), Bytes(b"\x01"), Rest(580)],
+            "fault: file 0 at 640 field 0: 18 FrameHTwice\n",
+        ),
+        (
+            "the frame has no FrameH",
+            &[Full(0, 569), Rest(640)],
+            "fault: file 0 at 2585 field 0: 19 NoFrameH\n",
+        ),
+        (
+            "the frame has no FrameH and a loose link: 19 before 20",
+            &[Full(0, 569), Full(640, 1520), Bytes(b"\x09"), Rest(1521)],
+            "fault: file 0 at 2585 field 0: 19 NoFrameH\n",
+        ),
+        (
+            "an end record after the table: 19 before 23",
+            &[Full(0, 3404), Full(2656, 2682), Rest(3404)],
+            "fault: file 0 at 3404 field 0: 19 NoFrameH\n",
+        ),
+        (
+            "H1:A's data leads nowhere",
+            &[Full(0, 1520), Bytes(b"\x09"), Full(1521, 3637)],
+            "fault: file 0 at 1485 field 3: 20 LooseLink\n",
+        ),
+        (
+            "procData leads to the end record",
+            &[Full(0, 618), Bytes(b"\x09\0\0\0\0\0"), Full(624, 3637)],
+            "fault: file 0 at 569 field 7: 20 LooseLink\n",
+        ),
+        (
+            "next of H1:C leads to H1:A",
+            &[Full(0, 2405), Bytes(b"\x05\0\0\0\0\0"), Full(2411, 3637)],
+            "accepted\norder: little\nframes: 1\nrecords: 10\nbytes: 3637\n",
+        ),
+        (
+            "two frames",
+            &[
+                Full(0, 2682),
+                Full(569, 640),
+                Full(809, 839),
+                Full(1129, 1180),
+                Full(1485, 1534),
+                Full(2137, 2505),
+                Full(2656, 3613),
+                Bytes(b"\x02\0\0\0"),
+                Rest(3617),
+            ],
+            "accepted\norder: little\nframes: 2\nrecords: 20\nbytes: 4232\n",
+        ),
+        (
+            "records in reverse order",
+            &[
+                Full(0, 40),
+                Full(1534, 2137),
+                Full(2415, 2505),
+                Full(1180, 1485),
+                Full(2366, 2415),
+                Full(2276, 2366),
+                Full(2227, 2276),
+                Full(2137, 2227),
+                Full(1485, 1534),
+                Full(839, 1180),
+                Full(640, 839),
+                Full(40, 640),
+                Rest(2505),
+            ],
+            "accepted\norder: little\nframes: 1\nrecords: 10\nbytes: 3637\n",
+        ),
+        (
+            "the frame has no end record",
+            &[Full(0, 2505), Rest(2682)],
+            "fault: file 0 at 3136 field 0: 21 OpenFrame\n",
+        ),
+        (
+            "a wrong closing in an open frame: 21 before 22",
+            &[
+                Full(0, 2505),
+                Full(3404, 3481),
+                Bytes(
+                    b"'\0\0\0\0\0\0\0\0\x02\x01\0\0\0\x07\0nBytes\0\x07\0INT_4U\0\x01\0\0\0\0\0\0",
+                ),
+                Full(3520, 3599),
+                Bytes(b"\"\0\0\0\0\0\0\0\0\x0b\0\0\0\0\0\0\0\0\0\0\0\0\0\0\0\0\0\0\0\0\0\0\0\0"),
+            ],
+            "fault: file 0 at 2700 field 0: 21 OpenFrame\n",
+        ),
+        (
+            "FrameH of 65534 letters",
+            &[
+                Full(0, 569),
+                Bytes(b"C\0\x01\0\0\0\0\0"),
+                Full(577, 583),
+                Bytes(b"\xff\xff"),
+                Times(65534, b"a"),
+                Full(587, 3617),
+                Bytes(b"1\x0e\x01\0\0\0\0\0"),
+                Full(3625, 3637),
+            ],
+            "accepted\norder: little\nframes: 1\nrecords: 10\nbytes: 69169\n",
+        ),
+    ];
+    check_rows(&rt, rt.alloc(), rows.as_slice())?;
+    Ok(())
+}
+
+#[test]
+fn judges_the_closing(rt: HostRuntime) -> Result<(), Fail> {
+    let rows: [Row; 10] = [
+        (
+            "nBytes of INT_4U in layout and record",
+            &[
+                Full(0, 3481),
+                Bytes(
+                    b"'\0\0\0\0\0\0\0\0\x02\x01\0\0\0\x07\0nBytes\0\x07\0INT_4U\0\x01\0\0\0\0\0\0",
+                ),
+                Full(3520, 3599),
+                Bytes(b"\"\0\0\0\0\0\0\0"),
+                Full(3607, 3617),
+                Bytes(&[0; 4]),
+                Full(3625, 3637),
+            ],
+            "fault: file 0 at 3599 field 0: 22 BadClosing\n",
+        ),
+        (
+            "FrameH after the table",
+            &[Full(0, 3404), Full(569, 640), Rest(3404)],
+            "fault: file 0 at 3404 field 0: 23 AfterTable\n",
+        ),
+        (
+            "nProc is 4294967295",
+            &[Full(0, 3392), Bytes(&[255; 4]), Full(3396, 3637)],
+            "accepted\norder: little\nframes: 1\nrecords: 10\nbytes: 3637\n",
+        ),
+        (
+            "nFrames is 2",
+            &[Full(0, 3613), Bytes(b"\x02"), Full(3614, 3637)],
+            "fault: file 0 at 3599 field 0: 25 FrameCount\n",
+        ),
+        (
+            "nBytes is 3636",
+            &[Full(0, 3617), Bytes(b"4"), Full(3618, 3637)],
+            "fault: file 0 at 3599 field 1: 26 ByteCount\n",
+        ),
+        (
+            "nBytes is 0",
+            &[Rest(0)],
+            "accepted\norder: little\nframes: 1\nrecords: 10\nbytes: 3637\n",
+        ),
+        (
+            "nFrames and nBytes are wrong: 25 before 26",
+            &[
+                Full(0, 3613),
+                Bytes(b"\x02"),
+                Full(3614, 3617),
+                Bytes(b"4"),
+                Full(3618, 3637),
+            ],
+            "fault: file 0 at 3599 field 0: 25 FrameCount\n",
+        ),
+        (
+            "one byte more",
+            &[Full(0, 3637), Bytes(b"\0")],
+            "fault: file 0 at 3637 field 0: 27 Trailing\n",
+        ),
+        (
+            "one byte more that nBytes counts: 26 before 27",
+            &[Full(0, 3617), Bytes(b"6"), Full(3618, 3637), Bytes(b"\0")],
+            "fault: file 0 at 3599 field 1: 26 ByteCount\n",
+        ),
+        (
+            "FrEndOfFile twice",
+            &[
+                Bare(0, 253),
+                Bytes(&[0; 8]),
+                Bare(261, 273),
+                Bare(235, 253),
+                Bytes(&[0; 8]),
+                Bare(261, 273),
+            ],
+            "fault: file 0 at 273 field 0: 27 Trailing\n",
+        ),
+    ];
+    check_rows(&rt, rt.alloc(), rows.as_slice())?;
+    Ok(())
+}

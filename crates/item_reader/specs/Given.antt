@@ -1,0 +1,35 @@
+-- What a reader gives of an item, and the body that it lends after it.
+use Rattle.std.specs.Prelude.{◌≡◌, ◌≢◌, ◌↔◌, ℕ, IsTrue, List, [], length, if◌then◌else◌, ◌&&◌, is_none, codes}
+use Rattle.item_reader.specs.declared.item.Item.{Item as Given}
+use Rattle.item_reader.specs.declared.item.Item.TheVariants as given
+use Rattle.item_reader.specs.declared.kind.Kind.{Kind}
+use Rattle.item_reader.specs.declared.kind.Kind.TheVariants.{FrameH, FrEndOfFrame, FrTOC, FrEndOfFile, Other}
+use Rattle.item_reader.specs.Structure.{Structure, size_of}
+use Rattle.item_reader.specs.Kind.{is_table_kind}
+use Rattle.item_reader.specs.Record.{layout_in}
+use Rattle.item_reader.specs.Item.{Item, EntryItem, OtherItem, dictionary_after}
+use Rattle.item_reader.specs.Fault.{Here, held, kind, number}
+
+-- what is given of a structure of a kind; a record has its number in the frame, from 0
+abbrev pub TellsKind : Kind → Here → Structure → Given → Type 0
+TellsKind FrEndOfFrame h s (given.FrameEnd at class) = (at ≡ s.at) × (class ≡ s.class)
+TellsKind FrTOC h s (given.Table at class length) = (at ≡ s.at) × (class ≡ s.class) × (length ≡ size_of s)
+TellsKind FrEndOfFile h s (given.FileEnd at class length seek) =
+    (at ≡ s.at) × (class ≡ s.class) × (length ≡ size_of s) × (seek ≡ number h (codes "seekTOC"))
+TellsKind FrameH h s (given.Plain at class instance node) =
+    (at ≡ s.at) × (class ≡ s.class) × (instance ≡ s.instance) × (node ≡ length h.before.frame)
+TellsKind Other h s (given.Plain at class instance node) =
+    (at ≡ s.at) × (class ≡ s.class) × (instance ≡ s.instance) × (node ≡ length h.before.frame)
+TellsKind kind h s item = ⊥
+
+-- what is given of an item; an entry changed the dictionary, or it did not
+abbrev pub Tells : Here → Item → Given → Type 0
+Tells h (EntryItem head run entry) (given.Entry at class changed) =
+    (at ≡ head.at) × (class ≡ entry.class) × (IsTrue changed ↔ (dictionary_after (held h) entry ≢ held h))
+Tells h (EntryItem head run entry) item = ⊥
+Tells h (OtherItem s) item = TellsKind (kind h) h s item
+
+-- The body that is lent after an item: none after an entry, and none after a contents table whose layout is not readable.
+abbrev pub body_after : Here → Item → List ℕ
+body_after h (EntryItem head run entry) = []
+body_after h (OtherItem s) = if is_table_kind (kind h) && is_none (layout_in (held h) s.class) then [] else s.body
