@@ -1,4 +1,10 @@
+mod Counting
 mod Files
-pub mod Slots
+mod Kept
+mod MemCalls
 mod Untold
+mod Written
+pub mod Places
 pub mod Reading
+pub mod Slots
+pub mod Writing

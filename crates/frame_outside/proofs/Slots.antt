@@ -1,7 +1,7 @@
--- What passing bytes of one slot does to all slots. Crates that take bytes in several calls cite these.
-use Rattle.std.proofs.Common.{◌≡◌, ℕ, zero, suc, ◌+◌, ◌<◌, List, [], ◌∷◌, ◌++◌, length, get_or, map, Option, Some, None, option_map, refl, ap, ◌∙◌, subst, add-zero, add_assoc, arith}
-use Rattle.std.proofs.Math.ListN.{set}
-use Rattle.frame_outside.specs.Shelf.{Reading, Slot, Source, Target, Told, IsSource, reading_at, passed, slot_passed, pass, released}
+-- What the calls of a shelf do to its slots: which are sources and targets, and what is told of those that
+-- a call leaves. Crates that make several calls cite these.
+use Rattle.std.proofs.Common.{◌≡◌, ℕ, zero, suc, ◌+◌, List, [], ◌∷◌, ◌++◌, length, Option, Some, None, option_map, refl, ap, add-zero, add_assoc, sym, subst}
+use Rattle.frame_outside.specs.Shelf.{Reading, Writing, Slot, Source, Target, IsSource, IsTarget, reading_at, writing_at, passed, slot_passed, pass, write, released, Outside, Opens, Makes, beginning_of, writing_begun}
 
 slot_passed-zero : (slot : Slot) → slot_passed 0 slot ≡ slot
 slot_passed-zero (Source None) = refl
@@ -32,15 +32,6 @@ length-pass [] slot n = refl
 length-pass (first ∷ others) zero n = refl
 length-pass (first ∷ others) (suc slot) n = ap (λ k. suc k) (length-pass others slot n)
 
--- a slot keeps its use
-pub IsSource-pass : (slots : List Slot) (slot n other : ℕ) → IsSource slots other → IsSource (pass slots slot n) other
-IsSource-pass [] slot n other h = h
-IsSource-pass (Source reading ∷ others) zero n zero h = h
-IsSource-pass (Target writing ∷ others) zero n zero h = h
-IsSource-pass (first ∷ others) zero n (suc other) h = h
-IsSource-pass (first ∷ others) (suc slot) n zero h = h
-IsSource-pass (first ∷ others) (suc slot) n (suc other) h = IsSource-pass others slot n other h
-
 -- what is told of the slot itself after it gave n bytes
 pub reading_at-pass : (slots : List Slot) (slot n : ℕ) → reading_at (pass slots slot n) slot ≡ option_map (passed n) (reading_at slots slot)
 reading_at-pass [] slot n = refl
@@ -53,6 +44,12 @@ pub IsSource-given : (slots : List Slot) (reading : Option Reading) → IsSource
 IsSource-given [] reading = refl
 IsSource-given (first ∷ others) reading = IsSource-given others reading
 
+pub IsSource-opens : (old new : Outside) (name : List ℕ) (slot : ℕ) → Opens old new name slot → IsSource new.slots slot
+IsSource-opens old new name slot opens =
+    let P : List Slot → Type 0 = λ slots. IsSource slots slot in
+    let Q : ℕ → Type 0 = λ number. IsSource (old.slots ++ Source (beginning_of old.files name) ∷ []) number in
+    subst P (sym opens.slots) (subst Q (sym opens.number) (IsSource-given old.slots (beginning_of old.files name)))
+
 pub reading_at-given : (slots : List Slot) (reading : Option Reading) → reading_at (slots ++ Source reading ∷ []) (length slots) ≡ reading
 reading_at-given [] reading = refl
 reading_at-given (first ∷ others) reading = reading_at-given others reading
@@ -61,35 +58,118 @@ pub pass-given : (slots : List Slot) (slot : Slot) (n : ℕ) → pass (slots ++ 
 pass-given [] slot n = refl
 pass-given (first ∷ others) slot n = ap (λ ss. first ∷ ss) (pass-given others slot n)
 
--- slots that are seen through a function of what is kept of them
-pub IsSource-within : {X : Type 0} (seen : X → Slot) (xs : List X) (slot : ℕ) → IsSource (map seen xs) slot → slot < length xs
-IsSource-within seen [] slot h = cc
-IsSource-within seen (x ∷ xs) zero h = omega arith
-IsSource-within seen (x ∷ xs) (suc slot) h = let e = IsSource-within seen xs slot h in omega arith
+-- a slot keeps its use, whatever another call does
 
--- one of them gave n bytes
-pub map-set-pass : {X : Type 0} (seen : X → Slot) (xs : List X) (slot n : ℕ) (old new : X) → old ≡ get_or xs slot old →
-    seen new ≡ slot_passed n (seen old) → map seen (set xs slot new) ≡ pass (map seen xs) slot n
-map-set-pass seen [] slot n old new same h = refl
-map-set-pass seen (x ∷ xs) zero n old new same h = ap (λ s. s ∷ map seen xs) (h ∙ ap (λ y. slot_passed n (seen y)) same)
-map-set-pass seen (x ∷ xs) (suc slot) n old new same h = ap (λ ss. seen x ∷ ss) (map-set-pass seen xs slot n old new same h)
+pub IsSource-pass : (slots : List Slot) (slot n other : ℕ) → IsSource slots other → IsSource (pass slots slot n) other
+IsSource-pass [] slot n other h = h
+IsSource-pass (Source reading ∷ others) zero n zero h = h
+IsSource-pass (Target writing ∷ others) zero n zero h = h
+IsSource-pass (first ∷ others) zero n (suc other) h = h
+IsSource-pass (first ∷ others) (suc slot) n zero h = h
+IsSource-pass (first ∷ others) (suc slot) n (suc other) h = IsSource-pass others slot n other h
 
-reading_at-map : {X : Type 0} (seen : X → Reading) (xs : List X) (slot : ℕ) (d : X) → slot < length xs →
-    reading_at (map (λ x. Source (Some (seen x))) xs) slot ≡ Some (seen (get_or xs slot d))
-reading_at-map seen [] slot d h = absurd (omega arith)
-reading_at-map seen (x ∷ xs) zero d h = refl
-reading_at-map seen (x ∷ xs) (suc slot) d h = let e : slot < length xs = omega arith in reading_at-map seen xs slot d e
+pub IsTarget-pass : (slots : List Slot) (slot n other : ℕ) → IsTarget slots other → IsTarget (pass slots slot n) other
+IsTarget-pass [] slot n other h = h
+IsTarget-pass (Source reading ∷ others) zero n zero h = h
+IsTarget-pass (Target writing ∷ others) zero n zero h = h
+IsTarget-pass (first ∷ others) zero n (suc other) h = h
+IsTarget-pass (first ∷ others) (suc slot) n zero h = h
+IsTarget-pass (first ∷ others) (suc slot) n (suc other) h = IsTarget-pass others slot n other h
 
--- what holds of what is kept holds of what is told
-pub told_at : {X : Type 0} (seen : X → Reading) (P : Reading → Type 0) (xs : List X) (slot : ℕ) (x : X) → slot < length xs → x ≡ get_or xs slot x →
-    P (seen x) → Told (reading_at (map (λ y. Source (Some (seen y))) xs) slot) P
-told_at seen P xs slot x lt same h reading told =
-    let known : reading_at (map (λ y. Source (Some (seen y))) xs) slot ≡ Some (seen (get_or xs slot x)) = reading_at-map seen xs slot x lt in
-    let e : seen x ≡ reading = cc in
-    subst P e h
+pub IsSource-write : (slots : List Slot) (slot : ℕ) (bytes : List ℕ) (other : ℕ) → IsSource slots other → IsSource (write slots slot bytes) other
+IsSource-write [] slot bytes other h = h
+IsSource-write (Source reading ∷ others) zero bytes zero h = h
+IsSource-write (Target writing ∷ others) zero bytes zero h = h
+IsSource-write (first ∷ others) zero bytes (suc other) h = h
+IsSource-write (first ∷ others) (suc slot) bytes zero h = h
+IsSource-write (first ∷ others) (suc slot) bytes (suc other) h = IsSource-write others slot bytes other h
 
--- source slots write no file
-pub released-sources : {X : Type 0} (seen : X → Reading) (name : List ℕ) (xs : List X) →
-    map (λ x. Source (Some (seen x))) xs ≡ released name (map (λ x. Source (Some (seen x))) xs)
-released-sources seen name [] = refl
-released-sources seen name (x ∷ xs) = ap (λ ss. Source (Some (seen x)) ∷ ss) (released-sources seen name xs)
+pub IsTarget-write : (slots : List Slot) (slot : ℕ) (bytes : List ℕ) (other : ℕ) → IsTarget slots other → IsTarget (write slots slot bytes) other
+IsTarget-write [] slot bytes other h = h
+IsTarget-write (Source reading ∷ others) zero bytes zero h = h
+IsTarget-write (Target writing ∷ others) zero bytes zero h = h
+IsTarget-write (first ∷ others) zero bytes (suc other) h = h
+IsTarget-write (first ∷ others) (suc slot) bytes zero h = h
+IsTarget-write (first ∷ others) (suc slot) bytes (suc other) h = IsTarget-write others slot bytes other h
+
+-- slots once a file was made, and the slot that writes it
+pub IsSource-made : (name : List ℕ) (slots : List Slot) (made : Slot) (other : ℕ) → IsSource slots other → IsSource (released name slots ++ made ∷ []) other
+IsSource-made name [] made other h = cc
+IsSource-made name (Source reading ∷ others) made zero h = h
+IsSource-made name (Target writing ∷ others) made zero h = cc
+IsSource-made name (first ∷ others) made (suc other) h = IsSource-made name others made other h
+
+pub IsTarget-made : (name : List ℕ) (slots : List Slot) (writing : Option Writing) → IsTarget (released name slots ++ Target writing ∷ []) (length slots)
+IsTarget-made name [] writing = refl
+IsTarget-made name (first ∷ others) writing = IsTarget-made name others writing
+
+pub IsTarget-before : (name : List ℕ) (slots : List Slot) (made : Slot) (other : ℕ) → IsTarget slots other → IsTarget (released name slots ++ made ∷ []) other
+IsTarget-before name [] made other h = cc
+IsTarget-before name (Source reading ∷ others) made zero h = cc
+IsTarget-before name (Target writing ∷ others) made zero h = h
+IsTarget-before name (first ∷ others) made (suc other) h = IsTarget-before name others made other h
+
+pub IsTarget-makes : (old new : Outside) (name : List ℕ) (slot : ℕ) → Makes old new name slot → IsTarget new.slots slot
+IsTarget-makes old new name slot makes =
+    let P : List Slot → Type 0 = λ slots. IsTarget slots slot in
+    let Q : ℕ → Type 0 = λ number. IsTarget (released name old.slots ++ Target (writing_begun old.files name) ∷ []) number in
+    subst P (sym makes.slots) (subst Q (sym makes.number) (IsTarget-made name old.slots (writing_begun old.files name)))
+
+-- slots once more are given
+pub IsSource-more : (slots more : List Slot) (other : ℕ) → IsSource slots other → IsSource (slots ++ more) other
+IsSource-more [] more other h = cc
+IsSource-more (first ∷ others) more zero h = h
+IsSource-more (first ∷ others) more (suc other) h = IsSource-more others more other h
+
+pub IsTarget-more : (slots more : List Slot) (other : ℕ) → IsTarget slots other → IsTarget (slots ++ more) other
+IsTarget-more [] more other h = cc
+IsTarget-more (first ∷ others) more zero h = h
+IsTarget-more (first ∷ others) more (suc other) h = IsTarget-more others more other h
+
+-- what a slot was opened on, and what it has left, whatever is written, made and opened
+pub reading_at-write : (slots : List Slot) (slot : ℕ) (bytes : List ℕ) (other : ℕ) → reading_at (write slots slot bytes) other ≡ reading_at slots other
+reading_at-write [] slot bytes other = refl
+reading_at-write (Source reading ∷ others) zero bytes zero = refl
+reading_at-write (Target writing ∷ others) zero bytes zero = refl
+reading_at-write (first ∷ others) zero bytes (suc other) = refl
+reading_at-write (first ∷ others) (suc slot) bytes zero = refl
+reading_at-write (first ∷ others) (suc slot) bytes (suc other) = reading_at-write others slot bytes other
+
+pub reading_at-made : (name : List ℕ) (slots : List Slot) (writing : Option Writing) (other : ℕ) → reading_at (released name slots ++ Target writing ∷ []) other ≡ reading_at slots other
+reading_at-made name [] writing zero = refl
+reading_at-made name [] writing (suc other) = refl
+reading_at-made name (Source reading ∷ others) writing zero = refl
+reading_at-made name (Target first ∷ others) writing zero = refl
+reading_at-made name (first ∷ others) writing (suc other) = reading_at-made name others writing other
+
+pub reading_at-more : (slots more : List Slot) (other : ℕ) → IsSource slots other → reading_at (slots ++ more) other ≡ reading_at slots other
+reading_at-more [] more other h = cc
+reading_at-more (first ∷ others) more zero h = refl
+reading_at-more (first ∷ others) more (suc other) h = reading_at-more others more other h
+
+-- what a slot has written, whatever is taken and opened
+pub writing_at-pass : (slots : List Slot) (slot n other : ℕ) → writing_at (pass slots slot n) other ≡ writing_at slots other
+writing_at-pass [] slot n other = refl
+writing_at-pass (Source reading ∷ others) zero n zero = refl
+writing_at-pass (Target writing ∷ others) zero n zero = refl
+writing_at-pass (first ∷ others) zero n (suc other) = refl
+writing_at-pass (first ∷ others) (suc slot) n zero = refl
+writing_at-pass (first ∷ others) (suc slot) n (suc other) = writing_at-pass others slot n other
+
+pub writing_at-more : (slots more : List Slot) (other : ℕ) → IsTarget slots other → writing_at (slots ++ more) other ≡ writing_at slots other
+writing_at-more [] more other h = cc
+writing_at-more (first ∷ others) more zero h = refl
+writing_at-more (first ∷ others) more (suc other) h = writing_at-more others more other h
+
+pub writing_at-made : (name : List ℕ) (slots : List Slot) (writing : Option Writing) → writing_at (released name slots ++ Target writing ∷ []) (length slots) ≡ writing
+writing_at-made name [] writing = refl
+writing_at-made name (first ∷ others) writing = writing_at-made name others writing
+
+-- taking and writing, in either order
+pub write-pass : (slots : List Slot) (source n target : ℕ) (bytes : List ℕ) → write (pass slots source n) target bytes ≡ pass (write slots target bytes) source n
+write-pass [] source n target bytes = refl
+write-pass (Source reading ∷ others) zero n zero bytes = refl
+write-pass (Target writing ∷ others) zero n zero bytes = refl
+write-pass (first ∷ others) zero n (suc target) bytes = refl
+write-pass (first ∷ others) (suc source) n zero bytes = refl
+write-pass (first ∷ others) (suc source) n (suc target) bytes = ap (λ ss. first ∷ ss) (write-pass others source n target bytes)

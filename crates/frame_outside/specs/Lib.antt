@@ -2,6 +2,9 @@ pub mod Counts
 pub mod Shelf
 pub mod Sink
 pub mod Calls
+pub mod Written
+pub mod MemSlot
+pub mod Opened
 pub mod MemShelf
 pub mod MemSink
 pub mod SlotReader

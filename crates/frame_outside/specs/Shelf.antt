@@ -2,8 +2,9 @@
 -- the trait has one relation between what is known before and after, and a step by several calls has
 -- the same relation.
 use Rattle.std.specs.Prelude.{◌≡◌, ℕ, zero, suc, ◌+◌, ◌-◌, ◌<◌, ◌≤◌, Bool, true, false, IsTrue, List, [], ◌∷◌, ◌++◌, length, map, take, drop, slice_get, Option, Some, None, is_none, option_map, option_and_then, if◌then◌else◌}
+use Rattle.std.specs.Option.{option_map_or}
 use Rattle.std.specs.Str.{bytes_eq}
-use Rattle.frame_outside.specs.Counts.{counted}
+use Rattle.frame_outside.specs.Counts.{counted, counted_by}
 
 -- the bytes held under each name; None where the name is not held
 abbrev pub Files : Type 0
@@ -28,6 +29,7 @@ pub data Slot : Type 0 where
 pub record Outside : Type 0 where
   pub faults : ℕ
   pub misses : ℕ
+  pub taken : ℕ
   pub slots : List Slot
   pub files : Option Files
 
@@ -78,6 +80,7 @@ pass (first ∷ others) (suc slot) n = first ∷ pass others slot n
 pub record Passes (old new : Outside) (slot n : ℕ) : Type 0 where
   pub faults : old.faults ≤ new.faults
   pub misses : new.misses ≡ old.misses
+  pub taken : new.taken ≡ counted_by old.taken n
   pub slots : new.slots ≡ pass old.slots slot n
   pub files : new.files ≡ old.files
   pub within : Told (reading_at old.slots slot) (λ reading. n ≤ length reading.opened - reading.at)
@@ -113,6 +116,7 @@ beginning_of files name = option_map beginning (option_and_then (λ held. held n
 pub record Opens (old new : Outside) (name : List ℕ) (slot : ℕ) : Type 0 where
   pub faults : old.faults ≤ new.faults
   pub misses : new.misses ≡ old.misses
+  pub taken : new.taken ≡ old.taken
   pub number : slot ≡ length old.slots
   pub slots : new.slots ≡ old.slots ++ Source (beginning_of old.files name) ∷ []
   pub files : new.files ≡ old.files
@@ -122,13 +126,108 @@ pub record Refuses (old new : Outside) (name : List ℕ) : Type 0 where
   pub faults : old.faults ≤ new.faults
   pub misses : old.misses ≤ new.misses
   pub missed : Told old.files (λ held. new.misses ≡ (if is_none (held name) then counted old.misses else old.misses))
+  pub taken : new.taken ≡ old.taken
   pub slots : new.slots ≡ old.slots
   pub files : new.files ≡ old.files
 
+-- n bytes were handed out, and nothing else changed beside the count of faults
+pub record HandsOut (old new : Outside) (n : ℕ) : Type 0 where
+  pub faults : old.faults ≤ new.faults
+  pub misses : new.misses ≡ old.misses
+  pub taken : new.taken ≡ counted_by old.taken n
+  pub slots : new.slots ≡ old.slots
+  pub files : new.files ≡ old.files
+
+-- the n bytes at the front of `into` are those from the place `at` on of what the slot was opened on, and n is 0 only at or past the end or for no room
+pub record GivesFrom (old : Outside) (slot at n : ℕ) (into : List ℕ) : Type 0 where
+  pub within : Told (reading_at old.slots slot) (λ reading. n ≤ length reading.opened - at)
+  pub bytes : Told (reading_at old.slots slot) (λ reading. take n into ≡ take n (drop at reading.opened))
+  pub end : n ≡ 0 → 0 < length into → Told (reading_at old.slots slot) (λ reading. length reading.opened ≤ at)
+
+-- whether there is a slot and `target` gave it
+abbrev pub is_target : Option Slot → Bool
+is_target (Some (Source reading)) = false
+is_target (Some (Target writing)) = true
+is_target None = false
+
+-- the slot was given by `target`
+abbrev pub IsTarget : List Slot → ℕ → Type 0
+IsTarget slots slot = IsTrue (is_target (slice_get slots slot))
+
+-- what is told of a slot: the bytes that it has written, and the name whose file it still writes
+abbrev pub writing_of : Option Slot → Option Writing
+writing_of (Some (Source reading)) = None
+writing_of (Some (Target writing)) = writing
+writing_of None = None
+
+-- the same of the slot of that number
+abbrev pub writing_at : List Slot → ℕ → Option Writing
+writing_at slots slot = writing_of (slice_get slots slot)
+
+-- a writing that wrote these bytes more
+abbrev pub wrote : List ℕ → Writing → Writing
+wrote bytes writing = record { written = writing.written ++ bytes; name = writing.name }
+
+-- a slot that wrote these bytes more
+abbrev pub slot_wrote : List ℕ → Slot → Slot
+slot_wrote bytes (Source reading) = Source reading
+slot_wrote bytes (Target writing) = Target (option_map (wrote bytes) writing)
+
+-- the slots after one of them wrote these bytes
+abbrev pub write : List Slot → ℕ → List ℕ → List Slot
+write [] slot bytes = []
+write (first ∷ others) zero bytes = slot_wrote bytes first ∷ others
+write (first ∷ others) (suc slot) bytes = first ∷ write others slot bytes
+
+-- the files once one of that name holds these bytes
+abbrev pub holding : List ℕ → List ℕ → Files → Files
+holding name bytes files q = if bytes_eq name q then Some bytes else files q
+
+-- the files once a slot has written: the file that it still writes is all that it wrote
+abbrev pub files_written : Option Writing → Option Files → Option Files
+files_written None files = files
+files_written (Some writing) files = option_map_or (λ name. option_map (holding name writing.written) files) writing.name files
+
+-- a slot wrote these bytes at its end, and nothing else changed beside the count of faults
+pub record Writes (old new : Outside) (slot : ℕ) (bytes : List ℕ) : Type 0 where
+  pub faults : old.faults ≤ new.faults
+  pub misses : new.misses ≡ old.misses
+  pub taken : new.taken ≡ old.taken
+  pub slots : new.slots ≡ write old.slots slot bytes
+  pub files : new.files ≡ files_written (writing_at new.slots slot) old.files
+
+-- a slot wrote a proper prefix of these bytes; of no bytes it wrote nothing
+pub record WritesPart (old new : Outside) (slot : ℕ) (bytes : List ℕ) : Type 0 where
+  pub count : ℕ
+  pub short : count ≤ length bytes - 1
+  pub writes : Writes old new slot (take count bytes)
+
+-- a writing of the file of that name from its beginning, where the shelf tells its files
+abbrev pub writing_begun : Option Files → List ℕ → Option Writing
+writing_begun files name = option_map (λ _. record { written = []; name = Some name }) files
+
+-- the file of that name was made or emptied, a new slot writes it and no other does, and nothing else changed beside the count of faults
+pub record Makes (old new : Outside) (name : List ℕ) (slot : ℕ) : Type 0 where
+  pub faults : old.faults ≤ new.faults
+  pub misses : new.misses ≡ old.misses
+  pub taken : new.taken ≡ old.taken
+  pub number : slot ≡ length old.slots
+  pub slots : new.slots ≡ released name old.slots ++ Target (writing_begun old.files name) ∷ []
+  pub files : new.files ≡ option_map (holding name []) old.files
+
+-- a slot of which nothing is told
+abbrev pub untold_slot : Bool → Slot
+untold_slot true = Target None
+untold_slot false = Source None
+
+-- the slots of open files of which nothing is told
+abbrev pub untold_slots : {A : Type 0} → (A → Bool) → List A → List Slot
+untold_slots is_written open_files = map (λ open_file. untold_slot (is_written open_file)) open_files
+
 -- a shelf that tells nothing, with a slot for each open file
-abbrev pub untold : {A : Type 0} → ℕ → List A → Outside
-untold faults open_files = record { faults = faults; misses = 0; slots = map (λ _. Source None) open_files; files = None }
+abbrev pub untold : {A : Type 0} → (A → Bool) → ℕ → ℕ → List A → Outside
+untold is_written faults taken open_files = record { faults = faults; misses = 0; taken = taken; slots = untold_slots is_written open_files; files = None }
 
 -- a shelf that tells nothing and has done nothing
 abbrev pub begun : Outside
-begun = record { faults = 0; misses = 0; slots = []; files = None }
+begun = record { faults = 0; misses = 0; taken = 0; slots = []; files = None }

@@ -28,6 +28,8 @@ use dispatch::run;
 use frame_outside::{DirShelf, StdSink};
 use outcome::Outcome;
 use std::alloc::Global;
+use std::os::fd::AsRawFd;
+use std::os::unix::fs::FileExt;
 use std::process::ExitCode;
 use std::{env, io};
 
@@ -52,7 +54,10 @@ fn words<R: std::rt::Env + AllocGlobal>(rt: &R) -> Result<Vec<String>, Outcome> 
     }
 }
 
-fn run_words<R: std::rt::Files + Print + AllocGlobal>(rt: &R, words: &[String]) -> Outcome {
+fn run_words<R: std::rt::Files + Print + AllocGlobal>(rt: &R, words: &[String]) -> Outcome
+where
+    R::File: FileExt + AsRawFd,
+{
     let mut shelf = DirShelf::new(rt, rt.alloc());
     let mut out = StdSink::new(rt);
     run(rt.alloc(), words, &mut shelf, &mut out)
