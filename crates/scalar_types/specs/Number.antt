@@ -1,5 +1,5 @@
 -- Numbers in a byte order, and the widths that they have in a frame file.
-use Rattle.std.specs.Prelude.{ℕ, ◌+◌, ◌*◌, ◌^◌, List, [], ◌∷◌, length}
+use Rattle.std.specs.Prelude.{ℕ, zero, suc, ◌+◌, ◌*◌, ◌/◌, ◌%◌, ◌^◌, List, [], ◌∷◌, length, reverse}
 use Rattle.scalar_types.specs.declared.Order.{Order}
 use Rattle.scalar_types.specs.declared.Order.TheVariants.{Big, Little}
 use Rattle.scalar_types.specs.declared.Width.{Width}
@@ -26,3 +26,13 @@ size_of One = 1
 size_of Two = 2
 size_of Four = 4
 size_of Eight = 8
+
+-- so many bytes of a number, the least first
+unfoldable pub little_bytes : ℕ → ℕ → List ℕ
+little_bytes zero n = []
+little_bytes (suc size) n = n % 256 ∷ little_bytes size (n / 256)
+
+-- the bytes of a number of a width in a byte order
+abbrev pub bytes_of : Order → Width → ℕ → List ℕ
+bytes_of Big width n = reverse (little_bytes (size_of width) n)
+bytes_of Little width n = little_bytes (size_of width) n

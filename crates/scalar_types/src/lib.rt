@@ -3,7 +3,7 @@
 #![tactic(auto)]
 
 ghost use Rattle.std.specs.Prelude.{◌≡◌, ◌<◌, ◌≤◌, ◌^◌, length, take, drop};
-ghost use Rattle.scalar_types.specs.Number.{number, size_of};
+ghost use Rattle.scalar_types.specs.Number.{number, bytes_of, size_of};
 
 use byteorder::{BigEndian, ByteOrder, LittleEndian};
 
@@ -47,8 +47,21 @@ pub fn read_num(order: Order, width: Width, bytes: &[u8]) -> u64
     ensures fits { result < 256 ^ size_of width }
 {
     match order {
-        Order::Big => BigEndian::read_uint(bytes, width.size()),
-        Order::Little => LittleEndian::read_uint(bytes, width.size()),
+        Order::Big => read_by::<BigEndian>(width, bytes),
+        Order::Little => read_by::<LittleEndian>(width, bytes),
+    }
+}
+
+/// The same by a call of the width's own, which is a single load.
+fn read_by<B: ByteOrder>(width: Width, bytes: &[u8]) -> u64
+    requires { size_of width ≤ length bytes.now }
+    ensures { result ≡ B.number_of (size_of width) bytes.now }
+{
+    match width {
+        Width::One => B::read_uint(bytes, 1),
+        Width::Two => u64::from(B::read_u16(bytes)),
+        Width::Four => u64::from(B::read_u32(bytes)),
+        Width::Eight => B::read_u64(bytes),
     }
 }
 
@@ -57,7 +70,7 @@ pub fn read_num(order: Order, width: Width, bytes: &[u8]) -> u64
 pub fn write_num(order: Order, width: Width, n: u64, into: &mut [u8])
     requires fits { n < 256 ^ size_of width }
     requires room { size_of width ≤ length into.old }
-    ensures value { number order (take (size_of width) into.new) ≡ n }
+    ensures value { take (size_of width) into.new ≡ bytes_of order width n }
     ensures rest { drop (size_of width) into.new ≡ drop (size_of width) into.old }
 {
     match order {
