@@ -1,2 +1,4 @@
 pub mod Accepted
+pub mod CommonBytes
 pub mod FirstBytes
+pub mod HeaderBytes

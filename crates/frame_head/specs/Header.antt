@@ -3,7 +3,8 @@ use Rattle.std.specs.Prelude.{◌==◌, ℕ, ◌+◌, All, find, Bool, not, if�
 use Rattle.std.specs.List.{starts_with}
 use Rattle.scalar_types.specs.declared.Order.{Order}
 use Rattle.scalar_types.specs.declared.Order.TheVariants.{Big, Little}
-use Rattle.scalar_types.specs.Number.{number}
+use Rattle.scalar_types.specs.declared.Width.TheVariants.{Two, Four, Eight}
+use Rattle.scalar_types.specs.Number.{number, bytes_of}
 use Rattle.frame_head.specs.declared.header.HeadFault.{HeadFault}
 
 -- a part of the header that is judged: these bytes at a place; or this number, at a place and in so many bytes
@@ -58,3 +59,16 @@ answer_of order (Some part) = Err (record { at = place_of part })
 -- what a header is read as: its byte order, or a fault at the place of its first wrong part
 abbrev pub header_of : List ℕ → Result Order HeadFault
 header_of header = answer_of (order_of header) (first_wrong (order_of header) header)
+
+-- the header that is written: minor version 0, each number in little-endian order, pi as a REAL_4 and as a REAL_8,
+-- and two bytes of 0
+abbrev pub header_bytes : List ℕ
+header_bytes =
+    codes "IGWD"
+    ++ (0 ∷ 8 ∷ 0 ∷ 2 ∷ 4 ∷ 8 ∷ 4 ∷ 8 ∷ [])
+    ++ bytes_of Little Two 0x1234
+    ++ bytes_of Little Four 0x12345678
+    ++ bytes_of Little Eight 0x0123456789ABCDEF
+    ++ bytes_of Little Four 0x40490FDB
+    ++ bytes_of Little Eight 0x400921FB54442D18
+    ++ (0 ∷ 0 ∷ [])

@@ -1,14 +1,15 @@
 //! The file header. It tells the version of the format and the byte order of every number in the
 //! file.
 
-ghost use Rattle.std.specs.Prelude.{◌≡◌, ◌+◌, ◌≤◌, ◌↔◌, All, find, not};
+ghost use Rattle.std.specs.Prelude.{◌≡◌, ◌+◌, ◌^◌, ◌<◌, ◌≤◌, ◌↔◌, All, find, fold, not, length};
 ghost use Rattle.std.specs.Option.{option_copied};
 ghost use Rattle.scalar_types.specs.Number.{size_of};
 ghost use Rattle.scalar_types.specs.declared.Order.{Order};
-ghost use Rattle.frame_head.specs.Header.{header_of, is_right, IsHeader};
-ghost use Rattle.frame_head.specs.NumberPart.{part_of};
+ghost use Rattle.scalar_types.specs.declared.Order.TheVariants.{Little};
+ghost use Rattle.frame_head.specs.Header.{header_of, header_bytes, is_right, IsHeader};
+ghost use Rattle.frame_head.specs.NumberPart.{part_of, with_part, IsPartOfHeader};
 
-use scalar_types::{Order, Width, read_num};
+use scalar_types::{Order, Width, read_num, write_num};
 use thiserror::Error;
 
 /// The bytes of a file header.
@@ -33,6 +34,12 @@ const NUMBERS: [NumberPart; 9] = [
     NumberPart(18, Width::Eight, 0x0123_4567_89AB_CDEF),
 ];
 
+/// The parts that are not judged, and that a header is written with: pi as a REAL_4 and as a REAL_8.
+const PI: [NumberPart; 2] = [
+    NumberPart(26, Width::Four, 0x4049_0FDB),
+    NumberPart(30, Width::Eight, 0x4009_21FB_5444_2D18),
+];
+
 /// The file header is not one of format version 8.
 #[derive(Clone, Copy, Debug, PartialEq, Eq, Error)]
 #[error("HeadFault")]
@@ -53,6 +60,15 @@ impl NumberPart {
     {
         let NumberPart(at, width, value) = *self;
         read_num(order, width, &bytes[usize::from(at)..]) == value
+    }
+
+    /// Writes the number at its place, in little-endian order.
+    fn write(&self, into: &mut [u8; HEADER_SIZE])
+        requires { IsPartOfHeader self.now }
+        ensures { into.new ≡ with_part into.old self.now }
+    {
+        let NumberPart(at, width, value) = *self;
+        write_num(Order::Little, width, value, &mut into[usize::from(at)..]);
     }
 }
 
@@ -91,4 +107,26 @@ fn first_wrong<'a>(
         ≡ find (λ part. not (is_right order bytes.now (part_of part))) parts.now }
 {
     parts.iter().find(|part| !part.is_right(order, bytes))
+}
+
+/// Writes the header of a copy over whatever stood there: minor version 0, and its numbers, pi among them, in
+/// little-endian order.
+pub fn write_header(into: &mut [u8; HEADER_SIZE])
+    ensures value { into.new ≡ header_bytes }
+    ensures read { header_of into.new ≡ Ok Little }
+{
+    *into = [0; HEADER_SIZE];
+    into[..SIGNATURE.len()].copy_from_slice(&SIGNATURE);
+    write_parts(&NUMBERS, into);
+    write_parts(&PI, into);
+}
+
+/// Writes the number of each part at its place.
+fn write_parts(parts: &[NumberPart], into: &mut [u8; HEADER_SIZE])
+    requires { All IsPartOfHeader parts.now }
+    ensures { into.new ≡ fold with_part into.old parts.now }
+{
+    for part in parts {
+        part.write(into);
+    }
 }

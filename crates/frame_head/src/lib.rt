@@ -7,5 +7,5 @@ mod structure;
 #[cfg(test)]
 mod tests;
 
-pub use header::{HEADER_SIZE, HeadFault, read_header};
-pub use structure::{Common, HEAD_SIZE, read_common};
+pub use header::{HEADER_SIZE, HeadFault, read_header, write_header};
+pub use structure::{Common, HEAD_SIZE, read_common, write_common};

@@ -1,9 +1,9 @@
 //! What every structure begins with: 14 bytes that tell its length, its class and its instance.
 
 ghost use Rattle.std.specs.Prelude.{◌≡◌};
-ghost use Rattle.frame_head.specs.Structure.{common_of};
+ghost use Rattle.frame_head.specs.Structure.{common_of, common_bytes};
 
-use scalar_types::{Order, Width, read_num};
+use scalar_types::{Order, Width, read_num, write_num};
 
 /// The bytes of a structure before its body.
 pub const HEAD_SIZE: usize = 14;
@@ -32,4 +32,21 @@ pub fn read_common(order: Order, bytes: &[u8; HEAD_SIZE]) -> Common
         class: bytes[9],
         instance: read_num(order, Width::Four, &bytes[10..]) as u32,
     }
+}
+
+/// Writes the first 14 bytes of a structure.
+pub fn write_common(order: Order, common: &Common, into: &mut [u8; HEAD_SIZE])
+    ensures value { into.new ≡ common_bytes order common.now }
+    ensures read { common_of order into.new ≡ common.now }
+{
+    let Common {
+        length,
+        check,
+        class,
+        instance,
+    } = *common;
+    write_num(order, Width::Eight, length, into);
+    into[8] = check;
+    into[9] = class;
+    write_num(order, Width::Four, instance.into(), &mut into[10..]);
 }

@@ -2,7 +2,9 @@
 
 ghost use Rattle.std.specs.Prelude.{◌<◌};
 
-use crate::{Common, HEADER_SIZE, HeadFault, read_common, read_header};
+use crate::{
+    Common, HEAD_SIZE, HEADER_SIZE, HeadFault, read_common, read_header, write_common, write_header,
+};
 use scalar_types::{Order, Width, write_num};
 
 const LITTLE: [u8; HEADER_SIZE] = [
@@ -93,4 +95,32 @@ fn writes_numbers_in_either_order(rt: HostRuntime) {
     assert_eq!(rt; bytes, [4, 3, 2, 1, 0xff, 0xff]);
     write_num(Order::Big, Width::Two, 0x0506, &mut bytes);
     assert_eq!(rt; bytes, [5, 6, 2, 1, 0xff, 0xff]);
+}
+
+#[test]
+fn writes_the_header_over_whatever_stood_there(rt: HostRuntime) {
+    let mut header = [0xff; HEADER_SIZE];
+    write_header(&mut header);
+    assert_eq!(rt; header, LITTLE);
+}
+
+#[test]
+fn writes_the_first_bytes_of_a_structure(rt: HostRuntime) {
+    let common = Common {
+        length: 0x0102_0304_0506_0708,
+        check: 1,
+        class: 11,
+        instance: 0x0A0B_0C0D,
+    };
+    let mut bytes = [0xff; HEAD_SIZE];
+    write_common(Order::Little, &common, &mut bytes);
+    assert_eq!(rt;
+        bytes,
+        [8, 7, 6, 5, 4, 3, 2, 1, 1, 11, 0x0D, 0x0C, 0x0B, 0x0A]
+    );
+    write_common(Order::Big, &common, &mut bytes);
+    assert_eq!(rt;
+        bytes,
+        [1, 2, 3, 4, 5, 6, 7, 8, 1, 11, 0x0A, 0x0B, 0x0C, 0x0D]
+    );
 }
