@@ -4,6 +4,7 @@ use Rattle.std.specs.Option.{option_map}
 use Rattle.type_text.specs.Tokens.{Token, Word, Mark}
 use Rattle.type_text.specs.TypeText.{dims_of, dim_of, with_dim, pointed_of, is_name}
 use Rattle.type_text.specs.Steps.{first_word, after_mark, no_token, word_before, closing, starred_of, bracketed_of, parenthesized_of, dims_from, pointed_from}
+use Rattle.type_text.proofs.FoundLemmas.{and_then-some, map-some}
 
 -- nothing is found behind a mark, whichever mark it is
 none-behind : {A : Type 0} (b : Bool) (f : List Token → Option A) (ts : List Token) → f ts ≡ None → option_and_then f (cond b (Some ts) None) ≡ None
@@ -44,15 +45,6 @@ first_word-shorter (Mark k ∷ ts) found e = cc
 first_word-shorter (Word w ∷ ts) found e =
     let same : (w, ts) ≡ found = cc in omega (arith, ap (λ (f : List ℕ × List Token). length f.1) same)
 
--- what both steps of a chain found
-pub and_then-some : {A B : Type 0} (f : A → Option B) (o : Option A) (y : B) → option_and_then f o ≡ Some y → (x : A) × (o ≡ Some x) × (f x ≡ Some y)
-and_then-some f None y e = cc
-and_then-some f (Some x) y e = (x, refl, e)
-
-pub map-some : {A B : Type 0} (f : A → B) (o : Option A) (y : B) → option_map f o ≡ Some y → (x : A) × (o ≡ Some x) × (f x ≡ y)
-map-some f None y e = cc
-map-some f (Some x) y e = (x, refl, cc)
-
 pub bracketed_of-shorter : (ts : List Token) (found : List ℕ × List Token) → bracketed_of ts ≡ Some found → length found.1 < length ts
 bracketed_of-shorter ts found e =
     let inside = and_then-some (word_before 93) (after_mark 91 ts) found e in
@@ -68,9 +60,9 @@ none-starred w s ts h = by (eqb s 42)
     by true = rw h refl
     by false = refl
 
--- the word, where nothing stands behind the parentheses
-abbrev picked : List ℕ → List Token → Option (List ℕ)
-picked w ts = cond (no_token ts && is_name w) (Some w) None
+-- the word and the tokens behind, where it is a name
+abbrev picked : List ℕ → List Token → Option (List ℕ × List Token)
+picked w ts = cond (is_name w) (Some (w, ts)) None
 
 parenthesized-picked : (l : ℕ) (w : List ℕ) (s r : ℕ) (ts : List Token) → pointed_from (parenthesized_of (Mark l ∷ Word w ∷ Mark s ∷ Mark r ∷ ts)) ≡ cond ((eqb l 40 && eqb s 42) && eqb r 41) (picked w ts) None
 parenthesized-picked l w s r ts =
@@ -82,13 +74,9 @@ parenthesized-picked l w s r ts =
       | false ↦ refl
     ]
 
-same_picked : (b n : Bool) (w : List ℕ) → cond (b && n) (Some w) None ≡ cond b (cond n (Some w) None) None
-same_picked true n w = refl
-same_picked false n w = refl
-
-none_picked : (b : Bool) → ◌≡◌ {A = Option (List ℕ)} None (cond b None None)
-none_picked true = refl
-none_picked false = refl
+same_picked : {A : Type 0} (b n : Bool) (x : A) → cond (b && n) (Some x) None ≡ cond b (cond n (Some x) None) None
+same_picked true n x = refl
+same_picked false n x = refl
 
 pub pointed_of-steps : (ts : List Token) → pointed_of ts ≡ pointed_from (parenthesized_of ts)
 unfolding pointed_of
@@ -105,9 +93,9 @@ pointed_of-steps (Mark l ∷ Word w ∷ Mark s ∷ []) =
     sym (ap pointed_from (none-behind (eqb l 40) starred_of (Word w ∷ Mark s ∷ []) (none-starred w s [] refl)))
 pointed_of-steps (Mark l ∷ Word w ∷ Mark s ∷ Word v ∷ ts) =
     sym (ap pointed_from (none-behind (eqb l 40) starred_of (Word w ∷ Mark s ∷ Word v ∷ ts) (none-starred w s (Word v ∷ ts) refl)))
-pointed_of-steps (Mark l ∷ Word w ∷ Mark s ∷ Mark r ∷ []) =
-    same_picked ((eqb l 40 && eqb s 42) && eqb r 41) (is_name w) w ∙ sym (parenthesized-picked l w s r [])
-pointed_of-steps (Mark l ∷ Word w ∷ Mark s ∷ Mark r ∷ t ∷ ts) =
-    none_picked ((eqb l 40 && eqb s 42) && eqb r 41) ∙ sym (parenthesized-picked l w s r (t ∷ ts))
+pointed_of-steps (Mark l ∷ Word w ∷ Mark s ∷ Mark r ∷ ts) =
+    same_picked ((eqb l 40 && eqb s 42) && eqb r 41) (is_name w) (w, ts) ∙ sym (parenthesized-picked l w s r ts)
 
 pub ruleset shorter = (bracketed_of-shorter)
+
+pub ruleset pointers = (pointed_of-steps)

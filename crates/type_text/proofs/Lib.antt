@@ -1,8 +1,9 @@
+pub mod FoundLemmas
 pub mod TokenLemmas
 pub mod NumeralLemmas
 pub mod GrammarLemmas
 pub mod ParsingLemmas
-pub mod LimitLemmas
+pub mod LengthLemmas
 pub mod PrintedLemmas
 pub mod Equality
 pub mod SpellingLemmas

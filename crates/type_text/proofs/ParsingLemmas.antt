@@ -1,39 +1,60 @@
 -- What the parser's steps make of the tokens that they find.
-use Rattle.std.proofs.Common.{◌≡◌, ℕ, ◌+◌, ◌<◌, ◌≤◌, true, false, cond, nat_le, List, [], ◌∷◌, ◌++◌, length, Option, Some, None, option_and_then, refl, sym, ◌∙◌, ap, arith, append_assoc, append-nil, length-append, le-leb}
+use Rattle.std.proofs.Common.{◌≡◌, ℕ, ◌<◌, ◌≤◌, true, false, nat_le, List, [], ◌∷◌, ◌++◌, length, Option, Some, None, option_and_then, codes, refl, sym, ◌∙◌, ap, arith, append_assoc, append-nil, le-leb}
 use Rattle.std.proofs.lemmas.Bool.Decides.{nat_tests}
+use Rattle.std.proofs.lemmas.Option.{some_pair_parts}
 use Rattle.std.specs.Option.{option_map}
-use Rattle.type_text.specs.declared.types.Base.TheVariants.{Ptr}
+use Rattle.std.specs.Str.{bytes_eq}
+use Rattle.type_text.specs.declared.types.Base.{Base}
 use Rattle.type_text.specs.declared.types.Dim.{Dim}
-use Rattle.type_text.specs.declared.types.ElementType.{ElementType}
-use Rattle.type_text.specs.Tokens.{Token}
-use Rattle.type_text.specs.TypeText.{within_limit, printed, dims_of, dim_of}
-use Rattle.type_text.specs.Steps.{no_token, bracketed_of, parenthesized_of, pointed_from, dims_from, pointer_type}
-use Rattle.type_text.proofs.GrammarLemmas.{dims_of-steps, pointed_of-steps}
+use Rattle.type_text.specs.Tokens.{Token, Word, Mark, tokens}
+use Rattle.type_text.specs.TypeText.{type_of, type_of_tokens, base_in_front, pointed_of, base_of, dims_of, dim_of}
+use Rattle.type_text.specs.Steps.{first_word, no_token, bracketed_of, dims_from, pointer_base, type_of_base}
+use Rattle.type_text.proofs.GrammarLemmas.{dims_of-steps}
 
--- a pointer to the name
-abbrev pub pointer_to : List ℕ → ElementType
-pointer_to to = record { base = Ptr to; dims = [] }
+-- the base in front, by the first word
+no_base : (ts : List Token) → first_word ts ≡ None → base_in_front ts ≡ None
+unfolding base_in_front
+no_base [] e = refl
+no_base (Mark k ∷ ts) e = refl
+no_base (Word w ∷ ts) e = cc
 
-pointer_type-found : (ts : List Token) (found : Option (List ℕ)) → pointed_from (parenthesized_of ts) ≡ found → pointer_type ts ≡ option_map pointer_to found
-pointer_type-found ts found e = ap (option_map pointer_to) (pointed_of-steps ts ∙ e)
+first_word-is : (ts : List Token) (w : List ℕ) (rest : List Token) → first_word ts ≡ Some (w, rest) → ts ≡ Word w ∷ rest
+first_word-is [] w rest e = cc
+first_word-is (Mark k ∷ ts) w rest e = cc
+first_word-is (Word v ∷ ts) w rest e = let parts = some_pair_parts v w ts rest e in cc
 
-length-pointer : (to : List ℕ) → length (printed (pointer_to to)) ≡ 14 + length to
-unfolding printed
-length-pointer to = grind (arith, length-append)
+base-pointer : (w : List ℕ) (ts : List Token) → bytes_eq w (codes "PTR_STRUCT") ≡ true → base_in_front (Word w ∷ ts) ≡ pointer_base (pointed_of ts)
+unfolding base_in_front
+base-pointer w ts e = rw e refl
 
-pub pointer-none : (ts : List Token) → pointed_from (parenthesized_of ts) ≡ None → within_limit (pointer_type ts) ≡ None
-pointer-none ts e = ap within_limit (pointer_type-found ts None e)
+base-plain : (w : List ℕ) (ts : List Token) → bytes_eq w (codes "PTR_STRUCT") ≡ false → base_in_front (Word w ∷ ts) ≡ option_map (λ base. (base, ts)) (base_of w)
+unfolding base_in_front
+base-plain w ts e = rw e refl
 
-pub pointer-long : (ts : List Token) (to : List ℕ) → pointed_from (parenthesized_of ts) ≡ Some to → 4082 < length to → within_limit (pointer_type ts) ≡ None
-pointer-long ts to e long =
-    ap within_limit (pointer_type-found ts (Some to) e) ∙ ap (λ b. cond b (Some (pointer_to to)) None) (leb-false (length (printed (pointer_to to))) (omega (arith, length-pointer to)))
+-- What a text reads as.
+type_of-read : (text : List ℕ) → length text ≤ 4096 → type_of text ≡ type_of_base (base_in_front (tokens text))
+unfolding type_of type_of_tokens
+type_of-read text fits = rw (le-leb (length text) 4096 fits) refl
+
+pub type_of-long : (text : List ℕ) → 4096 < length text → type_of text ≡ None
+unfolding type_of
+type_of-long text long = rw (long-test (length text) long) refl
   where
-    leb-false : (n : ℕ) → 4096 < n → nat_le n 4096 ≡ false
-    leb-false n h = grind (arith, nat_tests)
+    long-test : (n : ℕ) → 4096 < n → nat_le n 4096 ≡ false
+    long-test n h = grind (arith, nat_tests)
 
-pub pointer-fits : (ts : List Token) (to : List ℕ) → pointed_from (parenthesized_of ts) ≡ Some to → length to ≤ 4082 → within_limit (pointer_type ts) ≡ Some (pointer_to to)
-pointer-fits ts to e fits =
-    ap within_limit (pointer_type-found ts (Some to) e) ∙ ap (λ b. cond b (Some (pointer_to to)) None) (le-leb (length (printed (pointer_to to))) 4096 (omega (arith, length-pointer to)))
+pub type_of-none : (text : List ℕ) → length text ≤ 4096 → first_word (tokens text) ≡ None → type_of text ≡ None
+type_of-none text fits e = type_of-read text fits ∙ ap type_of_base (no_base (tokens text) e)
+
+pub type_of-pointer : (text w : List ℕ) (rest : List Token) → length text ≤ 4096 → first_word (tokens text) ≡ Some (w, rest) → bytes_eq w (codes "PTR_STRUCT") ≡ true → type_of text ≡ type_of_base (pointer_base (pointed_of rest))
+type_of-pointer text w rest fits e is =
+    type_of-read text fits
+    ∙ ap type_of_base (ap base_in_front (first_word-is (tokens text) w rest e) ∙ base-pointer w rest is)
+
+pub type_of-plain : (text w : List ℕ) (rest : List Token) (base : Option Base) → length text ≤ 4096 → first_word (tokens text) ≡ Some (w, rest) → bytes_eq w (codes "PTR_STRUCT") ≡ false → base_of w ≡ base → type_of text ≡ type_of_base (option_map (λ base. (base, rest)) base)
+type_of-plain text w rest base fits e other is =
+    type_of-read text fits
+    ∙ ap type_of_base (ap base_in_front (first_word-is (tokens text) w rest e) ∙ base-plain w rest other ∙ ap (option_map (λ base. (base, rest))) is)
 
 -- the dimensions that are read so far, before those of the tokens
 abbrev pub after_dims : List Dim → List Token → Option (List Dim)
@@ -60,7 +81,5 @@ pub after_dims-end : (front : List Dim) (ts : List Token) → no_token ts ≡ tr
 unfolding dims_of
 after_dims-end front [] e = ap Some (append-nil front)
 after_dims-end front (t ∷ ts) e = cc
-
-pub ruleset pointers = (pointer-none, pointer-long, pointer-fits)
 
 pub ruleset dimensions = (after_dims-stop, after_dims-bad, after_dims-more, after_dims-end)

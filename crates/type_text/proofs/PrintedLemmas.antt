@@ -1,8 +1,8 @@
 -- A printed text reads as the type that it was printed from.
-use Rattle.std.proofs.Common.{◌≡◌, ℕ, ◌<◌, ◌≤◌, Bool, true, false, not, cond, ◌&&◌, eqb, nat_le, nat_lt, List, [], ◌∷◌, ◌++◌, length, Some, None, codes, refl, sym, ◌∙◌, ap, subst, arith, append_assoc, append-nil, le-leb}
+use Rattle.std.proofs.Common.{◌≡◌, ℕ, ◌<◌, ◌≤◌, Bool, true, false, not, cond, ◌&&◌, eqb, nat_le, nat_lt, List, [], ◌∷◌, ◌++◌, length, Some, None, option_and_then, codes, refl, sym, ◌∙◌, ap, subst, arith, append_assoc, le-leb}
 use Rattle.std.specs.Bool.{⊤}
 use Rattle.std.proofs.lemmas.Bool.Decides.{nat_tests}
-use Rattle.std.proofs.lemmas.Bool.{leb-true, ltb-true}
+use Rattle.std.proofs.lemmas.Bool.{and_parts, and_from, leb-true, ltb-true}
 use Rattle.std.proofs.lemmas.Option.{same_Some}
 use Rattle.std.proofs.lemmas.Fmt.{decimal_is_IsNumeral}
 use Rattle.std.specs.Fmt.{decimal}
@@ -12,16 +12,14 @@ use Rattle.std.specs.Str.{bytes_eq, all_ascii_digits}
 use Rattle.std.specs.Str.Parse.{digits_value, AllDigits}
 use Rattle.std.specs.Char.{is_ascii_digit, digit_value}
 use Rattle.type_text.specs.declared.types.Base.{Base}
+use Rattle.type_text.specs.declared.types.Base.TheVariants.{Ptr}
 use Rattle.type_text.specs.declared.types.Dim.{Dim}
 use Rattle.type_text.specs.declared.types.Dim.TheVariants.{Numeral, Named}
 use Rattle.type_text.specs.declared.types.ElementType.{ElementType}
 use Rattle.type_text.specs.Tokens.{Token, Word, Mark, tokens, extended, begins_word, is_blank, is_word_byte}
-use Rattle.type_text.specs.TypeText.{type_of, type_of_tokens, within_limit, printed, base_text, dim_text, base_of, plain_bases, word_of, dims_of, dim_of, with_dim, pointed_of, numeral_of, is_name, IsType}
-use Rattle.type_text.specs.Steps.{plain_type}
-use Rattle.type_text.proofs.GrammarLemmas.{and_then-some, map-some}
+use Rattle.type_text.specs.TypeText.{type_of, type_of_tokens, within_limit, printed, base_text, dim_text, base_of, plain_bases, word_of, dims_of, dim_of, with_dim, pointed_of, base_in_front, with_dims, numeral_of, is_name, IsType}
+use Rattle.type_text.proofs.FoundLemmas.{cond-some, cond-both, and_then-some, map-some, find-some}
 use Rattle.type_text.proofs.TokenLemmas.{tokens-word_end, tokens-word_more}
-use Rattle.type_text.proofs.LimitLemmas.{cond-some, cond-then, and-true, find-some}
-use Rattle.type_text.proofs.ParsingLemmas.{pointer_to}
 
 -- the words among the tokens of a text have bytes of words
 abbrev pub AreWords : List Token → Type 0
@@ -29,13 +27,10 @@ AreWords [] = ⊤
 AreWords (Word w ∷ ts) = (list_all is_word_byte w ≡ true) × AreWords ts
 AreWords (Mark b ∷ ts) = AreWords ts
 
-pub and-both : (a b : Bool) → a ≡ true → b ≡ true → (a && b) ≡ true
-and-both a b p q = rw (p, q) refl
-
 AreWords-extended : (b : ℕ) (ts : List Token) → is_word_byte b ≡ true → AreWords ts → AreWords (extended b ts)
-AreWords-extended b [] h all = (and-both (is_word_byte b) true h refl, tt)
-AreWords-extended b (Word w ∷ ts) h all = (and-both (is_word_byte b) (list_all is_word_byte w) h all.0, all.1)
-AreWords-extended b (Mark k ∷ ts) h all = (and-both (is_word_byte b) true h refl, all)
+AreWords-extended b [] h all = (and_from (is_word_byte b) true h refl, tt)
+AreWords-extended b (Word w ∷ ts) h all = (and_from (is_word_byte b) (list_all is_word_byte w) h all.0, all.1)
+AreWords-extended b (Mark k ∷ ts) h all = (and_from (is_word_byte b) true h refl, all)
 
 pub AreWords-tokens : (text : List ℕ) → AreWords (tokens text)
 unfolding tokens
@@ -45,7 +40,7 @@ AreWords-tokens (b ∷ bs) = by (is_blank b) (is_word_byte b) (begins_word bs) r
     by : (blank word more : Bool) → is_word_byte b ≡ word → AreWords (tokens bs) → AreWords (cond blank (tokens bs) (cond word (cond more (extended b (tokens bs)) (Word (b ∷ []) ∷ tokens bs)) (Mark b ∷ tokens bs)))
     by true word more h rest = rest
     by false true true h rest = AreWords-extended b (tokens bs) h rest
-    by false true false h rest = (and-both (is_word_byte b) true h refl, rest)
+    by false true false h rest = (and_from (is_word_byte b) true h refl, rest)
     by false false more h rest = rest
 
 -- a name, and a dimension that a text may have
@@ -59,7 +54,7 @@ IsDim (Named w) = IsName w
 numeral_of-fits : (w : List ℕ) (n : ℕ) → numeral_of w ≡ Some n → n ≤ 4294967295
 numeral_of-fits w n e =
     let found = cond-some (all_ascii_digits w && nat_le (digits_value 10 w) 4294967295) (digits_value 10 w) n e in
-    let tests = and-true (all_ascii_digits w) (nat_le (digits_value 10 w) 4294967295) found.0 in
+    let tests = and_parts (all_ascii_digits w) (nat_le (digits_value 10 w) 4294967295) found.0 in
     omega (arith, found.1, leb-true (digits_value 10 w) 4294967295 tests.1)
 
 IsDim-from_dim_of : (w : List ℕ) (d : Dim) → list_all is_word_byte w ≡ true → dim_of w ≡ Some d → IsDim d
@@ -80,8 +75,8 @@ dims-from_dims_of (Mark l ∷ Mark m ∷ ts) ds all e = cc
 dims-from_dims_of (Mark l ∷ Word w ∷ []) ds all e = cc
 dims-from_dims_of (Mark l ∷ Word w ∷ Word v ∷ ts) ds all e = cc
 dims-from_dims_of (Mark l ∷ Word w ∷ Mark r ∷ ts) ds all e =
-    let read = cond-then (eqb l 91 && eqb r 93) (with_dim (dim_of w) (dims_of ts)) ds e in
-    let dim = and_then-some (λ d. option_map (λ ds. d ∷ ds) (dims_of ts)) (dim_of w) ds read in
+    let read = cond-both (eqb l 91 && eqb r 93) (with_dim (dim_of w) (dims_of ts)) ds e in
+    let dim = and_then-some (λ d. option_map (λ ds. d ∷ ds) (dims_of ts)) (dim_of w) ds read.1 in
     let dims = map-some (λ ds. dim.0 ∷ ds) (dims_of ts) ds dim.2 in
     subst (AllByRecursion IsDim) dims.2 (IsDim-from_dim_of w dim.0 all.0 dim.1, dims-from_dims_of ts dims.0 all.1 dims.1)
 
@@ -99,15 +94,15 @@ all_plain = (record { text = refl; found = refl; other = refl; bytes = refl; lon
 
 IsPlain-found : (w : List ℕ) (base : Base) → base_of w ≡ Some base → IsPlain base
 unfolding base_of
-IsPlain-found w base e = (find-some (λ base. bytes_eq (word_of base) w) IsPlain plain_bases base all_plain e).0
+IsPlain-found w base e = find-some (λ base. bytes_eq (word_of base) w) IsPlain plain_bases base all_plain e
 
 -- The tokens of a printed text.
 pub tokens-word_append : (w rest : List ℕ) → 0 < length w → list_all is_word_byte w ≡ true → begins_word rest ≡ false → tokens (w ++ rest) ≡ Word w ∷ tokens rest
 tokens-word_append [] rest long bytes end = absurd (omega arith)
-tokens-word_append (b ∷ []) rest long bytes end = tokens-word_end b rest (and-true (is_word_byte b) true bytes).0 end
+tokens-word_append (b ∷ []) rest long bytes end = tokens-word_end b rest (and_parts (is_word_byte b) true bytes).0 end
 tokens-word_append (b ∷ c ∷ w) rest long bytes end =
-    let first = and-true (is_word_byte b) (list_all is_word_byte (c ∷ w)) bytes in
-    let second = and-true (is_word_byte c) (list_all is_word_byte w) first.1 in
+    let first = and_parts (is_word_byte b) (list_all is_word_byte (c ∷ w)) bytes in
+    let second = and_parts (is_word_byte c) (list_all is_word_byte w) first.1 in
     tokens-word_more b (c ∷ w ++ rest) first.0 second.0 ∙ ap (extended b) (tokens-word_append (c ∷ w) rest (omega arith) first.1 end)
 
 -- decimal digits
@@ -115,7 +110,7 @@ digits-test : (ds : List ℕ) → AllDigits 10 ds → (all_ascii_digits ds ≡ t
 digits-test [] all = (refl, refl)
 digits-test (c ∷ cs) all =
     let rest = digits-test cs all.1 in
-    (and-both (is_ascii_digit c) (all_ascii_digits cs) (digit c all.0) rest.0, and-both (is_word_byte c) (list_all is_word_byte cs) (word c all.0) rest.1)
+    (and_from (is_ascii_digit c) (all_ascii_digits cs) (digit c all.0) rest.0, and_from (is_word_byte c) (list_all is_word_byte cs) (word c all.0) rest.1)
   where
     digit : (c : ℕ) → digit_value c < 10 → is_ascii_digit c ≡ true
     digit c h = grind (arith, nat_tests)
@@ -125,7 +120,7 @@ digits-test (c ∷ cs) all =
 
 digits-no_name : (ds : List ℕ) → 0 < length ds → all_ascii_digits ds ≡ true → is_name ds ≡ false
 digits-no_name [] long all = refl
-digits-no_name (c ∷ cs) long all = ap not (and-true (is_ascii_digit c) (all_ascii_digits cs) all).0
+digits-no_name (c ∷ cs) long all = ap not (and_parts (is_ascii_digit c) (all_ascii_digits cs) all).0
 
 -- the word of a dimension in brackets
 abbrev dim_word : Dim → List ℕ
@@ -184,61 +179,76 @@ unfolding dims_of
 dims_of-tokens [] all = refl
 dims_of-tokens (d ∷ ds) all = rw (dim_of-word d all.0, dims_of-tokens ds all.1) refl
 
-plain-reads : (base : Base) (ds : List Dim) → IsPlain base → AllByRecursion IsDim ds → type_of_tokens (tokens (printed (record { base = base; dims = ds }))) ≡ Some (record { base = base; dims = ds })
-unfolding printed type_of_tokens
-plain-reads base ds plain all =
-    ap (λ text. type_of_tokens (tokens (text ++ flat_map dim_text ds))) plain.text
-    ∙ ap type_of_tokens (tokens-word_append (word_of base) (flat_map dim_text ds) (ltb-true 0 (length (word_of base)) plain.long) plain.bytes (begins_word-dims ds) ∙ ap (λ ts. Word (word_of base) ∷ ts) (tokens-dims ds all))
-    ∙ rw (plain.other, plain.found, dims_of-tokens ds all) refl
+-- the base in front of the printed text
+plain-front : (base : Base) (ds : List Dim) → IsPlain base → AllByRecursion IsDim ds → base_in_front (tokens (printed (record { base = base; dims = ds }))) ≡ Some (base, dims_tokens ds)
+unfolding printed base_in_front
+plain-front base ds plain all =
+    ap (λ text. base_in_front (tokens (text ++ flat_map dim_text ds))) plain.text
+    ∙ ap base_in_front (tokens-word_append (word_of base) (flat_map dim_text ds) (ltb-true 0 (length (word_of base)) plain.long) plain.bytes (begins_word-dims ds) ∙ ap (λ ts. Word (word_of base) ∷ ts) (tokens-dims ds all))
+    ∙ rw (plain.other, plain.found) refl
 
-tokens-pointer : (to : List ℕ) → IsName to → tokens (printed (pointer_to to)) ≡ Word (codes "PTR_STRUCT") ∷ Mark 40 ∷ Word to ∷ Mark 42 ∷ Mark 41 ∷ []
+tokens-pointer : (to : List ℕ) (ds : List Dim) → IsName to → AllByRecursion IsDim ds → tokens (printed (record { base = Ptr to; dims = ds })) ≡ Word (codes "PTR_STRUCT") ∷ Mark 40 ∷ Word to ∷ Mark 42 ∷ Mark 41 ∷ dims_tokens ds
 unfolding printed tokens
-tokens-pointer to name =
-    tokens-word_append (codes "PTR_STRUCT") (40 ∷ ((to ++ codes " *)") ++ [])) (omega arith) refl refl
-    ∙ ap (λ text. Word (codes "PTR_STRUCT") ∷ Mark 40 ∷ tokens text) (append-nil (to ++ codes " *)"))
-    ∙ ap (λ ts. Word (codes "PTR_STRUCT") ∷ Mark 40 ∷ ts) (tokens-word_append to (codes " *)") (is_name-long to name.0) name.1 refl)
+tokens-pointer to ds name all =
+    tokens-word_append (codes "PTR_STRUCT") (40 ∷ ((to ++ codes " *)") ++ flat_map dim_text ds)) (omega arith) refl refl
+    ∙ ap (λ text. Word (codes "PTR_STRUCT") ∷ Mark 40 ∷ tokens text) (append_assoc to (codes " *)") (flat_map dim_text ds))
+    ∙ ap (λ ts. Word (codes "PTR_STRUCT") ∷ Mark 40 ∷ ts) (tokens-word_append to (codes " *)" ++ flat_map dim_text ds) (is_name-long to name.0) name.1 refl)
+    ∙ ap (λ ts. Word (codes "PTR_STRUCT") ∷ Mark 40 ∷ Word to ∷ Mark 42 ∷ Mark 41 ∷ ts) (tokens-dims ds all)
 
-pointer-reads : (to : List ℕ) → IsName to → type_of_tokens (tokens (printed (pointer_to to))) ≡ Some (pointer_to to)
-unfolding type_of_tokens pointed_of
-pointer-reads to name = ap type_of_tokens (tokens-pointer to name) ∙ rw name.0 refl
+pointer-front : (to : List ℕ) (ds : List Dim) → IsName to → AllByRecursion IsDim ds → base_in_front (tokens (printed (record { base = Ptr to; dims = ds }))) ≡ Some (Ptr to, dims_tokens ds)
+unfolding base_in_front pointed_of
+pointer-front to ds name all = ap base_in_front (tokens-pointer to ds name all) ∙ rw name.0 refl
 
-pointed_of-name : (ts : List Token) (to : List ℕ) → AreWords ts → pointed_of ts ≡ Some to → IsName to
+pointed_of-name : (ts : List Token) (found : List ℕ × List Token) → AreWords ts → pointed_of ts ≡ Some found → IsName found.0 × AreWords found.1
 unfolding pointed_of
-pointed_of-name [] to all e = cc
-pointed_of-name (Word w ∷ ts) to all e = cc
-pointed_of-name (Mark l ∷ []) to all e = cc
-pointed_of-name (Mark l ∷ Mark m ∷ ts) to all e = cc
-pointed_of-name (Mark l ∷ Word w ∷ []) to all e = cc
-pointed_of-name (Mark l ∷ Word w ∷ Word v ∷ ts) to all e = cc
-pointed_of-name (Mark l ∷ Word w ∷ Mark s ∷ []) to all e = cc
-pointed_of-name (Mark l ∷ Word w ∷ Mark s ∷ Word v ∷ ts) to all e = cc
-pointed_of-name (Mark l ∷ Word w ∷ Mark s ∷ Mark r ∷ t ∷ ts) to all e = cc
-pointed_of-name (Mark l ∷ Word w ∷ Mark s ∷ Mark r ∷ []) to all e =
-    let found = cond-some (((eqb l 40 && eqb s 42) && eqb r 41) && is_name w) w to e in
-    let tests = and-true ((eqb l 40 && eqb s 42) && eqb r 41) (is_name w) found.0 in
-    subst IsName found.1 (tests.1, all.0)
+pointed_of-name [] found all e = cc
+pointed_of-name (Word w ∷ ts) found all e = cc
+pointed_of-name (Mark l ∷ []) found all e = cc
+pointed_of-name (Mark l ∷ Mark m ∷ ts) found all e = cc
+pointed_of-name (Mark l ∷ Word w ∷ []) found all e = cc
+pointed_of-name (Mark l ∷ Word w ∷ Word v ∷ ts) found all e = cc
+pointed_of-name (Mark l ∷ Word w ∷ Mark s ∷ []) found all e = cc
+pointed_of-name (Mark l ∷ Word w ∷ Mark s ∷ Word v ∷ ts) found all e = cc
+pointed_of-name (Mark l ∷ Word w ∷ Mark s ∷ Mark r ∷ ts) found all e =
+    let picked = cond-some (((eqb l 40 && eqb s 42) && eqb r 41) && is_name w) (w, ts) found e in
+    let tests = and_parts ((eqb l 40 && eqb s 42) && eqb r 41) (is_name w) picked.0 in
+    subst (λ (found : List ℕ × List Token). IsName found.0 × AreWords found.1) picked.1 ((tests.1, all.0), all.1)
+
+-- the printed text of each type with a base that was read has that base in front, and its dimensions behind
+abbrev ReadsAgain : Base × List Token → Type 0
+ReadsAgain found =
+    AreWords found.1 × ((ds : List Dim) → AllByRecursion IsDim ds → base_in_front (tokens (printed (record { base = found.0; dims = ds }))) ≡ Some (found.0, dims_tokens ds))
+
+base-again : (ts : List Token) (found : Base × List Token) → AreWords ts → base_in_front ts ≡ Some found → ReadsAgain found
+unfolding base_in_front
+base-again [] found all e = cc
+base-again (Mark k ∷ ts) found all e = cc
+base-again (Word w ∷ ts) found all e = by (bytes_eq w (codes "PTR_STRUCT")) e
+  where
+    by : (b : Bool) → cond b (option_map (λ (f : List ℕ × List Token). (Ptr f.0, f.1)) (pointed_of ts)) (option_map (λ base. (base, ts)) (base_of w)) ≡ Some found → ReadsAgain found
+    by true e =
+        let to = map-some (λ (f : List ℕ × List Token). (Ptr f.0, f.1)) (pointed_of ts) found e in
+        let name = pointed_of-name ts to.0 all.1 to.1 in
+        subst ReadsAgain to.2 (name.1, λ ds dims. pointer-front to.0.0 ds name.0 dims)
+    by false e =
+        let base = map-some (λ base. (base, ts)) (base_of w) found e in
+        subst ReadsAgain base.2 (all.1, λ ds dims. plain-front base.0 ds (IsPlain-found w base.0 base.1) dims)
 
 tokens-read : (ts : List Token) (ty : ElementType) → AreWords ts → type_of_tokens ts ≡ Some ty → type_of_tokens (tokens (printed ty)) ≡ Some ty
 unfolding type_of_tokens
-tokens-read [] ty all e = cc
-tokens-read (Mark k ∷ ts) ty all e = cc
-tokens-read (Word w ∷ ts) ty all e = by (bytes_eq w (codes "PTR_STRUCT")) e
-  where
-    by : (b : Bool) → cond b (option_map pointer_to (pointed_of ts)) (plain_type w ts) ≡ Some ty → type_of_tokens (tokens (printed ty)) ≡ Some ty
-    by true e =
-        let to = map-some pointer_to (pointed_of ts) ty e in
-        subst (λ ty. type_of_tokens (tokens (printed ty)) ≡ Some ty) to.2 (pointer-reads to.0 (pointed_of-name ts to.0 all.1 to.1))
-    by false e =
-        let base = and_then-some (λ base. option_map (λ dims. record { base = base; dims = dims }) (dims_of ts)) (base_of w) ty e in
-        let dims = map-some (λ dims. record { base = base.0; dims = dims }) (dims_of ts) ty base.2 in
-        subst (λ ty. type_of_tokens (tokens (printed ty)) ≡ Some ty) dims.2 (plain-reads base.0 dims.0 (IsPlain-found w base.0 base.1) (dims-from_dims_of ts dims.0 all.1 dims.1))
+tokens-read ts ty all e =
+    let found = and_then-some with_dims (base_in_front ts) ty e in
+    let again = base-again ts found.0 all found.1 in
+    let dims = map-some (λ dims. record { base = found.0.0; dims = dims }) (dims_of found.0.1) ty found.2 in
+    let sound = dims-from_dims_of found.0.1 dims.0 again.0 dims.1 in
+    subst (λ ty. option_and_then with_dims (base_in_front (tokens (printed ty))) ≡ Some ty) dims.2 (ap (option_and_then with_dims) (again.1 dims.0 sound) ∙ ap (option_map (λ dims. record { base = found.0.0; dims = dims })) (dims_of-tokens dims.0 sound))
 
 -- A printed text is a type, and reads as the type that it was printed from.
 pub printed-read : (ty : ElementType) → IsType ty → type_of (printed ty) ≡ Some ty
 unfolding type_of
 printed-read ty is =
     let text = is.0 in
-    let read = cond-then (nat_le (length text) 4096) (within_limit (type_of_tokens (tokens text))) ty is.1 in
+    let read = (cond-both (nat_le (length text) 4096) (within_limit (type_of_tokens (tokens text))) ty is.1).1 in
     let found = and_then-some (λ ty. cond (nat_le (length (printed ty)) 4096) (Some ty) None) (type_of_tokens (tokens text)) ty read in
     let fits = cond-some (nat_le (length (printed found.0)) 4096) found.0 ty found.2 in
     let short : nat_le (length (printed ty)) 4096 ≡ true = subst (λ ty. nat_le (length (printed ty)) 4096 ≡ true) fits.1 fits.0 in

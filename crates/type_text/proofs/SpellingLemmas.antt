@@ -1,28 +1,27 @@
 -- A text spells just its tokens.
-use Rattle.std.proofs.Common.{◌≡◌, ◌↔◌, ℕ, Bool, true, false, cond, nat_le, List, [], ◌∷◌, ◌++◌, length, Option, Some, None, refl, sym, ◌∙◌, ap, subst, arith, append_assoc, append-nil, le-leb}
-use Rattle.std.proofs.lemmas.Bool.{leb-true, true≢false}
+use Rattle.std.proofs.Common.{◌≡◌, ◌↔◌, ℕ, Bool, true, false, cond, nat_le, List, [], ◌∷◌, ◌++◌, length, Some, None, refl, sym, ◌∙◌, ap, subst, arith, append_assoc, append-nil, le-leb}
+use Rattle.std.proofs.lemmas.Bool.{and_parts, and_from, leb-true, true≢false}
 use Rattle.std.proofs.lemmas.Bool.Decides.{nat_tests}
 use Rattle.std.specs.List.{list_all}
 use Rattle.type_text.specs.declared.types.ElementType.{ElementType}
 use Rattle.type_text.specs.Tokens.{Token, Word, Mark, tokens, extended, begins_word, is_blank, is_word_byte, is_mark, IsSpelling}
 use Rattle.type_text.specs.TypeText.{type_of, type_of_tokens, within_limit, printed, IsTypeText}
-use Rattle.type_text.proofs.GrammarLemmas.{and_then-some}
 use Rattle.type_text.proofs.TokenLemmas.{tokens-blank, tokens-mark, blank-word_byte}
-use Rattle.type_text.proofs.LimitLemmas.{cond-some, and-true}
-use Rattle.type_text.proofs.PrintedLemmas.{and-both, tokens-word_append}
+use Rattle.type_text.proofs.FoundLemmas.{cond-some, cond-both, and_then-some}
+use Rattle.type_text.proofs.PrintedLemmas.{tokens-word_append}
 
 -- blanks in front change no token
 tokens-blanks : (blanks rest : List ℕ) → list_all is_blank blanks ≡ true → tokens (blanks ++ rest) ≡ tokens rest
 tokens-blanks [] rest all = refl
 tokens-blanks (b ∷ bs) rest all =
-    let both = and-true (is_blank b) (list_all is_blank bs) all in
+    let both = and_parts (is_blank b) (list_all is_blank bs) all in
     tokens-blank b (bs ++ rest) both.0 ∙ tokens-blanks bs rest both.1
 
 tokens-all_blank : (bs : List ℕ) → list_all is_blank bs ≡ true → tokens bs ≡ []
 unfolding tokens
 tokens-all_blank [] all = refl
 tokens-all_blank (b ∷ bs) all =
-    let both = and-true (is_blank b) (list_all is_blank bs) all in
+    let both = and_parts (is_blank b) (list_all is_blank bs) all in
     tokens-blank b bs both.0 ∙ tokens-all_blank bs both.1
 
 is_mark-parts : (b : ℕ) → is_mark b ≡ true → (is_blank b ≡ false) × (is_word_byte b ≡ false)
@@ -45,18 +44,18 @@ tokens-spelled (Mark b ∷ ts) text s =
 
 -- a blank in front of a spelling
 spelling-blank : (b : ℕ) (ts : List Token) (bs : List ℕ) → is_blank b ≡ true → IsSpelling ts bs → IsSpelling ts (b ∷ bs)
-spelling-blank b [] bs blank s = and-both (is_blank b) (list_all is_blank bs) blank s
+spelling-blank b [] bs blank s = and_from (is_blank b) (list_all is_blank bs) blank s
 spelling-blank b (Word w ∷ ts) bs blank s =
-    (b ∷ s.0, s.1, and-both (is_blank b) (list_all is_blank s.0) blank s.2, s.3, s.4, ap (λ bs. b ∷ bs) s.5, s.6)
+    (b ∷ s.0, s.1, and_from (is_blank b) (list_all is_blank s.0) blank s.2, s.3, s.4, ap (λ bs. b ∷ bs) s.5, s.6)
 spelling-blank b (Mark k ∷ ts) bs blank s =
-    (b ∷ s.0, s.1, and-both (is_blank b) (list_all is_blank s.0) blank s.2, s.3, ap (λ bs. b ∷ bs) s.4, s.5)
+    (b ∷ s.0, s.1, and_from (is_blank b) (list_all is_blank s.0) blank s.2, s.3, ap (λ bs. b ∷ bs) s.4, s.5)
 
 -- a byte in front of a word
 no_blanks : (blanks rest bs : List ℕ) → list_all is_blank blanks ≡ true → begins_word bs ≡ true → bs ≡ blanks ++ rest → blanks ≡ []
 no_blanks [] rest bs all more e = refl
 no_blanks (c ∷ cs) rest bs all more e =
     let word : is_word_byte c ≡ true = sym (ap begins_word e) ∙ more in
-    let blank = and-true (is_blank c) (list_all is_blank cs) all in
+    let blank = and_parts (is_blank c) (list_all is_blank cs) all in
     absurd (true≢false (sym blank.0 ∙ blank-word_byte c word))
 
 spelling-extended : (b : ℕ) (ts : List Token) (bs : List ℕ) → is_word_byte b ≡ true → begins_word bs ≡ true → IsSpelling ts bs → IsSpelling (extended b ts) (b ∷ bs)
@@ -65,7 +64,7 @@ spelling-extended b [] bs word more s =
     absurd (true≢false (sym more ∙ ap begins_word none))
 spelling-extended b (Word w ∷ ts) bs word more s =
     let none = no_blanks s.0 (w ++ s.1) bs s.2 more (s.5 ∙ append_assoc s.0 w s.1) in
-    ([], s.1, refl, (omega arith, and-both (is_word_byte b) (list_all is_word_byte w) word s.3.1), s.4, ap (λ bs. b ∷ bs) (s.5 ∙ ap (λ blanks. blanks ++ w ++ s.1) none), s.6)
+    ([], s.1, refl, (omega arith, and_from (is_word_byte b) (list_all is_word_byte w) word s.3.1), s.4, ap (λ bs. b ∷ bs) (s.5 ∙ ap (λ blanks. blanks ++ w ++ s.1) none), s.6)
 spelling-extended b (Mark k ∷ ts) bs word more s =
     let none = no_blanks s.0 (k ∷ s.1) bs s.2 more s.4 in
     let first : begins_word bs ≡ is_word_byte k = ap begins_word (s.4 ∙ ap (λ blanks. blanks ++ k ∷ s.1) none) in
@@ -82,12 +81,8 @@ spelling-tokens (b ∷ bs) = by (is_blank b) (is_word_byte b) (begins_word bs) r
     by : (blank word more : Bool) → is_blank b ≡ blank → is_word_byte b ≡ word → begins_word bs ≡ more → IsSpelling (tokens bs) bs → IsSpelling (cond blank (tokens bs) (cond word (cond more (extended b (tokens bs)) (Word (b ∷ []) ∷ tokens bs)) (Mark b ∷ tokens bs))) (b ∷ bs)
     by true word more p q r s = spelling-blank b (tokens bs) bs p s
     by false true true p q r s = spelling-extended b (tokens bs) bs q r s
-    by false true false p q r s = ([], bs, refl, (omega arith, and-both (is_word_byte b) true q refl), r, refl, s)
+    by false true false p q r s = ([], bs, refl, (omega arith, and_from (is_word_byte b) true q refl), r, refl, s)
     by false false more p q r s = ([], bs, refl, mark b p q, refl, s)
-
-cond-both : {A : Type 0} (b : Bool) (o : Option A) (y : A) → cond b o None ≡ Some y → (b ≡ true) × (o ≡ Some y)
-cond-both true o y e = (refl, e)
-cond-both false o y e = cc
 
 -- A text reads as a type exactly where the grammar says so.
 grammar-from : (text : List ℕ) (ty : ElementType) → type_of text ≡ Some ty → IsTypeText text ty

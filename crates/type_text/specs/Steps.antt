@@ -1,11 +1,12 @@
 -- What a scan finds at the front of a text's tokens.
-use Rattle.std.specs.Prelude.{ℕ, Bool, true, false, ◌==◌, ◌&&◌, if◌then◌else◌, List, [], ◌∷◌, Option, Some, None, option_and_then}
+use Rattle.std.specs.Prelude.{ℕ, Bool, true, false, ◌==◌, if◌then◌else◌, List, [], ◌∷◌, Option, Some, None, option_and_then}
 use Rattle.std.specs.Option.{option_map}
 use Rattle.type_text.specs.Tokens.{Token, Word, Mark, is_blank}
-use Rattle.type_text.specs.TypeText.{pointed_of, dims_of, dim_of, with_dim, base_of, is_name}
+use Rattle.type_text.specs.TypeText.{dims_of, dim_of, with_dim, is_name, with_dims, within_limit}
+use Rattle.type_text.specs.declared.types.Base.{Base}
+use Rattle.type_text.specs.declared.types.Base.TheVariants.{Ptr}
 use Rattle.type_text.specs.declared.types.Dim.{Dim}
 use Rattle.type_text.specs.declared.types.ElementType.{ElementType}
-use Rattle.type_text.specs.declared.types.Base.TheVariants.{Ptr}
 
 -- the first token, where it is a word, and the tokens after it
 abbrev pub first_word : List Token → Option (List ℕ × List Token)
@@ -51,15 +52,15 @@ parenthesized_of ts = option_and_then starred_of (after_mark 40 ts)
 abbrev pub dims_from : Option (List ℕ × List Token) → Option (List Dim)
 dims_from found = option_and_then (λ (f : List ℕ × List Token). with_dim (dim_of f.0) (dims_of f.1)) found
 
--- the word in parentheses, where it is a name and nothing stands behind it
-abbrev pub pointed_from : Option (List ℕ × List Token) → Option (List ℕ)
+-- the word in parentheses and the tokens after it, where the word is a name
+abbrev pub pointed_from : Option (List ℕ × List Token) → Option (List ℕ × List Token)
 pointed_from found =
-    option_and_then (λ (f : List ℕ × List Token). if no_token f.1 && is_name f.0 then Some f.0 else None) found
+    option_and_then (λ (f : List ℕ × List Token). if is_name f.0 then Some f else None) found
 
--- the type of the tokens after PTR_STRUCT
-abbrev pub pointer_type : List Token → Option ElementType
-pointer_type ts = option_map (λ to. record { base = Ptr to; dims = [] }) (pointed_of ts)
+-- the base of a pointer to the name, and the tokens after it
+abbrev pub pointer_base : Option (List ℕ × List Token) → Option (Base × List Token)
+pointer_base found = option_map (λ f. (Ptr f.0, f.1)) found
 
--- the type of a base word and the tokens after it
-abbrev pub plain_type : List ℕ → List Token → Option ElementType
-plain_type w ts = option_and_then (λ base. option_map (λ dims. record { base = base; dims = dims }) (dims_of ts)) (base_of w)
+-- the type of a base and its dimensions, where its printed text is not too long
+abbrev pub type_of_base : Option (Base × List Token) → Option ElementType
+type_of_base found = within_limit (option_and_then with_dims found)

@@ -64,17 +64,25 @@ dims_of [] = Some []
 dims_of (Mark l ∷ Word w ∷ Mark r ∷ ts) = if l == 91 && r == 93 then with_dim (dim_of w) (dims_of ts) else None
 dims_of _ = None
 
--- what stands after PTR_STRUCT: a name and a star (42) in parentheses (40 and 41), without dimension
-unfoldable pub pointed_of : List Token → Option (List ℕ)
-pointed_of (Mark l ∷ Word w ∷ Mark s ∷ Mark r ∷ []) =
-    if ((l == 40 && s == 42) && r == 41) && is_name w then Some w else None
+-- a name and a star (42) in parentheses (40 and 41), as they stand after PTR_STRUCT: the name, and the tokens behind
+unfoldable pub pointed_of : List Token → Option (List ℕ × List Token)
+pointed_of (Mark l ∷ Word w ∷ Mark s ∷ Mark r ∷ ts) =
+    if ((l == 40 && s == 42) && r == 41) && is_name w then Some (w, ts) else None
 pointed_of _ = None
 
--- the type of these tokens
+-- the base in front, which is a base word, or PTR_STRUCT with a name and a star in parentheses; and the tokens behind
+unfoldable pub base_in_front : List Token → Option (Base × List Token)
+base_in_front (Word w ∷ ts) =
+    if bytes_eq w (codes "PTR_STRUCT") then option_map (λ found. (Ptr found.0, found.1)) (pointed_of ts) else option_map (λ base. (base, ts)) (base_of w)
+base_in_front _ = None
+
+-- the type of a base and the tokens behind it, which are its dimensions
+abbrev pub with_dims : Base × List Token → Option ElementType
+with_dims found = option_map (λ dims. record { base = found.0; dims = dims }) (dims_of found.1)
+
+-- the type of these tokens: a base, then zero or more dimensions
 unfoldable pub type_of_tokens : List Token → Option ElementType
-type_of_tokens (Word w ∷ ts) =
-    if bytes_eq w (codes "PTR_STRUCT") then option_map (λ to. record { base = Ptr to; dims = [] }) (pointed_of ts) else option_and_then (λ base. option_map (λ dims. record { base = base; dims = dims }) (dims_of ts)) (base_of w)
-type_of_tokens _ = None
+type_of_tokens ts = option_and_then with_dims (base_in_front ts)
 
 -- the printed text of a dimension, in brackets
 abbrev pub dim_text : Dim → List ℕ

@@ -5,6 +5,7 @@
 
 mod base_words;
 mod item_list;
+mod lengths;
 mod names;
 mod numerals;
 mod parsing;

@@ -2,21 +2,16 @@
 ghost use Rattle.std.specs.Prelude.{◌≡◌, ◌↔◌, true, Some, IfOk};
 ghost use Rattle.std.specs.Option.{option_map};
 ghost use Rattle.type_text.specs.Tokens.{tokens, is_mark};
-ghost use Rattle.type_text.specs.TypeText.{type_of, IsTypeText, within_limit, dims_of, dim_of};
-ghost use Rattle.type_text.specs.Steps.{word_before, bracketed_of, parenthesized_of, pointed_from, pointer_type};
+ghost use Rattle.type_text.specs.TypeText.{type_of, IsTypeText, pointed_of, dims_of, dim_of};
+ghost use Rattle.type_text.specs.Steps.{word_before, bracketed_of, parenthesized_of, pointer_base, type_of_base};
 ghost use Rattle.type_text.specs.declared.types.ElementType.{ElementType};
 
 use crate::base_words::{base_named, is_pointer_word};
+use crate::lengths::{TEXT_LIMIT, printed_fits};
 use crate::numerals::{is_name, numeral};
 use crate::scanning::{is_end, mark_at, word_at};
 use crate::{Base, Dim, DimList, ElementType, Name};
 use std::alloc::{AllocError, Global};
-
-/// The most bytes of a text that is a type, and of its printed text.
-const TEXT_LIMIT: usize = 4096;
-
-/// The bytes of a printed pointer beside its name: `PTR_STRUCT(`, ` *` and `)`.
-const POINTER_MARKS: usize = 14;
 
 /// The type that the text reads as. None exactly where the text is no type by the grammar, so a text has at most one type.
 pub fn parse_type(alloc: Global, text: &[u8]) -> Result<Option<ElementType>, AllocError>
@@ -38,45 +33,48 @@ fn read(alloc: Global, text: &[u8]) -> Result<Option<ElementType>, AllocError>
     if is_pointer_word(word) {
         return pointer(alloc, rest);
     }
-    // No printed text of these is longer than the text.
-    let Some(base) = base_named(word) else {
-        return Ok(None);
-    };
-    let dims = dims(alloc, rest)?;
-    Ok(dims.map(|dims| ElementType { base, dims }))
+    match base_named(word) {
+        Some(base) => with_dims(alloc, base, rest),
+        None => Ok(None),
+    }
 }
 
 /// The type of what stands after PTR_STRUCT.
-#[tactic(auto, using(crate::proofs::ParsingLemmas::pointers))]
 fn pointer(alloc: Global, text: &[u8]) -> Result<Option<ElementType>, AllocError>
-    ensures { IfOk result (λ found. found ≡ within_limit (pointer_type (tokens text.now))) }
+    ensures { IfOk result (λ found. found ≡ type_of_base (pointer_base (pointed_of (tokens text.now)))) }
 {
-    let Some(to) = pointed(text) else {
+    let Some((name, rest)) = pointed(text) else {
         return Ok(None);
     };
-    if to.len() > TEXT_LIMIT - POINTER_MARKS {
-        return Ok(None);
-    }
-    Ok(Some(ElementType {
-        base: Base::Ptr {
-            to: Name::new(alloc, to)?,
-        },
-        dims: DimList::new(alloc),
-    }))
+    let to = Name::new(alloc, name)?;
+    with_dims(alloc, Base::Ptr { to }, rest)
 }
 
-/// The name in parentheses, where these tokens are the whole text.
-fn pointed(text: &[u8]) -> Option<&[u8]>
-    ensures { option_map (λ to. to.now) result ≡ pointed_from (parenthesized_of (tokens text.now)) }
+/// The type of a base and the dimensions that make up the whole text behind it, where its printed text is not too long.
+fn with_dims(alloc: Global, base: Base, text: &[u8]) -> Result<Option<ElementType>, AllocError>
+    ensures { IfOk result (λ found. found ≡ type_of_base (Some (base, tokens text.now))) }
 {
-    let (name, rest) = parenthesized(text)?;
-    if !is_end(rest) {
+    let Some(dims) = dims(alloc, text)? else {
+        return Ok(None);
+    };
+    let ty = ElementType { base, dims };
+    if printed_fits(&ty) {
+        Ok(Some(ty))
+    } else {
+        Ok(None)
+    }
+}
+
+/// The name before a star in parentheses at the front, and the text after it.
+#[tactic(auto, using(crate::proofs::GrammarLemmas::pointers))]
+fn pointed(text: &[u8]) -> Option<(&[u8], &[u8])>
+    ensures { option_map (λ found. (found.0.now, tokens found.1.now)) result ≡ pointed_of (tokens text.now) }
+{
+    let (word, rest) = parenthesized(text)?;
+    if !is_name(word) {
         return None;
     }
-    if !is_name(name) {
-        return None;
-    }
-    Some(name)
+    Some((word, rest))
 }
 
 /// The word before a star in parentheses at the front, and the text after it.

@@ -16,6 +16,10 @@ fn texts_are_read_and_printed(rt: HostRuntime) -> Result<(), Fail> {
     for (text, want) in [
         ("PTR_STRUCT(FrVect*)", "PTR_STRUCT(FrVect *)"),
         ("PTR_STRUCT( FrVect * )", "PTR_STRUCT(FrVect *)"),
+        (
+            "PTR_STRUCT( FrVect * ) [ 007 ][ n ]",
+            "PTR_STRUCT(FrVect *)[7][n]",
+        ),
         ("INT_4U [ 007 ]", "INT_4U[7]"),
         ("\tINT_4U\t[\t7\t]\t", "INT_4U[7]"),
         ("INT_8U[nDim][4294967295]", "INT_8U[nDim][4294967295]"),
@@ -26,7 +30,7 @@ fn texts_are_read_and_printed(rt: HostRuntime) -> Result<(), Fail> {
         ("INT_4U[", ""),
         ("INT_3U", ""),
         ("CHAR[4294967296]", ""),
-        ("PTR_STRUCT(FrVect *)[2]", ""),
+        ("PTR_STRUCT(FrVect *)[2]x", ""),
         ("", ""),
         ("INT_4U[]", ""),
         ("INT_4U[a b]", ""),
@@ -53,6 +57,10 @@ fn texts_may_have_4096_bytes(rt: HostRuntime) -> Result<(), Fail> {
         ("CHAR[", b'0', 4089, "9]", true),
         ("PTR_STRUCT(", b'a', 4082, "*)", true),
         ("PTR_STRUCT(", b'a', 4083, "*)", false),
+        ("PTR_STRUCT(", b'a', 4079, "*)[2]", true),
+        ("PTR_STRUCT(", b'a', 4080, "*)[2]", false),
+        ("PTR_STRUCT(A*)[", b'n', 4079, "]", true),
+        ("PTR_STRUCT(A*)[", b'n', 4080, "]", false),
     ] {
         let mut text = front.as_bytes().to_vec(alloc)?;
         for _ in 0..count {
