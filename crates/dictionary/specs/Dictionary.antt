@@ -5,7 +5,7 @@ use Rattle.std.specs.Str.{bytes_eq}
 use Rattle.dictionary.specs.declared.entries.Entry.{Entry}
 use Rattle.dictionary.specs.declared.held.AddFault.{AddFault}
 use Rattle.dictionary.specs.declared.held.AddFault.TheVariants.{ClassRange, Redefined, NameTwice, ElementLimit}
-use Rattle.dictionary.specs.Same.{AreRead, same_entries}
+use Rattle.dictionary.specs.Same.{AreRead, IsSameEntry, same_entries}
 
 -- the entry held of a class
 abbrev pub entry_of : List Entry → ℕ → Option Entry
@@ -44,6 +44,10 @@ step_by (Some old) held e = step_held held old e
 unfoldable pub step : List Entry → Entry → Result (List Entry) AddFault
 step held e =
     if is_built_in e.class then (if is_too_long e then Err ElementLimit else Ok held) else (if is_out_of_range e.class then Err ClassRange else step_by (entry_of held e.class) held e)
+
+-- An entry redefines its class where an entry of the class is held, and that one is not the same.
+abbrev pub IsRedefined : List Entry → Entry → Type 0
+IsRedefined held e = IsSomeAnd (entry_of held e.class) (λ old. ¬ IsSameEntry old e)
 
 -- What an entry that is held has: a class of 3 to 255, types as its texts read, at most 4,096 elements, and a name that is of its class alone.
 pub record IsHeld (held : List Entry) (e : Entry) : Type 0 where

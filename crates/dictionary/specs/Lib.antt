@@ -3,3 +3,4 @@ pub mod Dictionary
 pub mod Kept
 pub mod Verdicts
 pub mod Names
+pub mod Named

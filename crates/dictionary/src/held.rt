@@ -1,9 +1,9 @@
 //! The dictionary.
-ghost use Rattle.std.specs.Prelude.{◌≡◌, ◌++◌, [], ◌∷◌, Some, None, Ok, Err, nat_eq, if◌then◌else◌, IfOk, OnOk, OnErr, IfErr, IsOk, IsOkUnless};
+ghost use Rattle.std.specs.Prelude.{◌≡◌, ◌↔◌, ◌++◌, [], ◌∷◌, Some, None, Ok, Err, nat_eq, if◌then◌else◌, IfOk, OnOk, OnErr, IfErr, IsOk, IsOkUnless};
 ghost use Rattle.std.specs.Option.{option_copied};
 ghost use Rattle.indexmap.specs.IndexMap.{get};
 ghost use Rattle.dictionary.specs.Same.{AreRead, same_entries};
-ghost use Rattle.dictionary.specs.Dictionary.{entry_of, class_named, is_built_in, is_out_of_range, is_too_long, step, IsDictionary};
+ghost use Rattle.dictionary.specs.Dictionary.{entry_of, class_named, is_built_in, is_out_of_range, is_too_long, step, IsRedefined, IsDictionary};
 ghost use Rattle.dictionary.specs.Verdicts.{IsNew, IsVerdict, IsVerdictOnNew};
 ghost use Rattle.dictionary.specs.Names.{Puts, Leaves};
 
@@ -101,6 +101,7 @@ impl Dictionary {
     /// NoMemory comes only where an entry was to be held. A refused entry is dropped, and the dictionary stays as it was.
     pub fn add(&mut self, entry: Entry) -> Result<(), AddFault>
         requires { AreRead entry.elements }
+        ensures redefined { (result ≡ Err AddFault.Redefined) ↔ IsRedefined self.old entry }
         ensures refused { IfErr (step self.old entry) (λ fault. result ≡ Err fault) }
         ensures accepted { IfOk (step self.old entry) (λ next. OnOk result (self.new ≡ next)) }
         ensures only_memory { OnOk (step self.old entry) (IsOkUnless result AddFault.NoMemory) }
@@ -118,8 +119,11 @@ impl Dictionary {
     #[tactic(auto, unfolding(crate::specs::Dictionary::step))]
     fn verdict(&self, entry: &Entry) -> Verdict
         requires { AreRead entry.now.elements }
-        ensures { IsVerdict self.now entry.now result }
+        ensures told { IsVerdict self.now entry.now result }
+        ensures sound { IsDictionary self.now }
     {
+        // A proof knows what is held where a field is used.
+        let _ = &self.by_class;
         if is_built_in(entry.class) {
             return verdict_on_length(entry);
         }

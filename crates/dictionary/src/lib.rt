@@ -3,10 +3,12 @@
 
 mod entries;
 mod held;
+mod named;
 mod same;
 
 pub use entries::{Element, ElementList, Entry};
 pub use held::{AddFault, Dictionary};
+pub use named::{first_named, has_type};
 pub use same::same_entry;
 
 #[cfg(test)]

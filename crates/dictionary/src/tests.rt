@@ -142,3 +142,37 @@ fn comments_do_not_make_entries_differ(rt: HostRuntime) -> Result<(), Fail> {
     assert!(rt; same_entry(&first.copy()?, &first));
     Ok(())
 }
+
+/// Whether the first element of the name has this type.
+fn is_typed(elements: &[Element], name: &[u8], base: Base, dims: &[&[u8]]) -> bool {
+    match first_named(elements, name) {
+        Some((_, element)) => has_type(element, &base, dims),
+        None => false,
+    }
+}
+
+#[test]
+fn elements_are_found_by_name_and_told_by_type(rt: HostRuntime) -> Result<(), Fail> {
+    let alloc = rt.alloc();
+    let mut elements = ElementList::new(alloc);
+    for (name, text) in [
+        ("count", "INT_8U"),
+        ("data", "REAL_8[ count ][ n ]"),
+        ("data", "INT_4U"),
+        ("next", "CHAR[7]"),
+    ] {
+        elements.push(element(alloc, name, text, "")?)?;
+    }
+    let elements = elements.as_slice();
+    let number = first_named(elements, b"data").map(|(number, _)| number);
+    assert_eq!(rt; number, Some(1));
+    assert!(rt; first_named(elements, b"dat").is_none());
+    let (count, n) = (b"count".as_slice(), b"n".as_slice());
+    assert!(rt; is_typed(elements, b"data", Base::Real8, &[count, n]));
+    assert!(rt; !is_typed(elements, b"data", Base::Real8, &[n, count]));
+    assert!(rt; !is_typed(elements, b"data", Base::Real8, &[count]));
+    assert!(rt; is_typed(elements, b"count", Base::Int8U, &[]));
+    assert!(rt; !is_typed(elements, b"count", Base::Int8S, &[]));
+    assert!(rt; !is_typed(elements, b"next", Base::Char, &[b"7".as_slice()]));
+    Ok(())
+}
