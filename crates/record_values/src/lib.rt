@@ -5,7 +5,7 @@
 
 mod values;
 
-pub use values::{NumList, PairList, TextList, Value, ValueList, same_values};
+pub use values::{LinkList, NumList, PairList, TextList, Value, ValueList, same_values};
 
 #[cfg(test)]
 mod tests;

@@ -27,10 +27,14 @@ fn values(alloc: Global, n: u8) -> Result<ValueList, AllocError> {
     values.push(Value::Pairs(pairs))?;
     values.push(Value::Texts(texts))?;
     values.push(Value::Bytes(Name::new(alloc, &[n])?))?;
-    values.push(Value::Link(Link {
+    let link = Link {
         class: 3,
         instance: u32::from(n),
-    }))?;
+    };
+    let mut links = LinkList::new(alloc);
+    links.push(link)?;
+    values.push(Value::Link(link))?;
+    values.push(Value::Links(links))?;
     Ok(values)
 }
 
@@ -38,7 +42,7 @@ fn values(alloc: Global, n: u8) -> Result<ValueList, AllocError> {
 fn values_of_each_form_are_compared(rt: HostRuntime) -> Result<(), Fail> {
     let list = values(rt.alloc(), 1)?;
     let other = values(rt.alloc(), 2)?;
-    assert_eq!(rt; list.len(), 8);
+    assert_eq!(rt; list.len(), 9);
     assert!(rt; same_values(list.as_slice(), list.clone()?.as_slice()));
     for (i, value) in list.as_slice().iter().enumerate() {
         let number = if i == 0 { 1 } else { 0 };

@@ -12,6 +12,9 @@ pub type PairList = ItemList<(u64, u64)>;
 /// Texts in order, each without its closing zero byte.
 pub type TextList = ItemList<Name>;
 
+/// Links in order.
+pub type LinkList = ItemList<Link>;
+
 /// One value a field, in the order of the layout.
 pub type ValueList = ItemList<Value>;
 
@@ -31,6 +34,7 @@ pub enum Value {
     /// A list of numbers of one byte each.
     Bytes(Name),
     Link(Link),
+    Links(LinkList),
 }
 
 impl Value {
