@@ -6,18 +6,19 @@ use Rattle.std.proofs.lemmas.Bool.{eqb-true, eq-eqb, ne_eqb, or_cases}
 use Rattle.scalar_types.specs.declared.Order.{Order}
 use Rattle.scalar_types.specs.declared.Width.{Width}
 use Rattle.scalar_types.specs.declared.Width.TheVariants.{One, Two, Four, Eight}
+use Rattle.type_text.specs.declared.types.Link.{Link as StructLink}
 use Rattle.record_values.specs.declared.values.Value.{Value}
 use Rattle.record_values.specs.declared.values.Value.TheVariants as value
 use Rattle.record_values.specs.Spelling.{IsNumber, IsPair, IsText, IsLink}
 use Rattle.layout_plan.specs.declared.fields.Form.{Form}
 use Rattle.layout_plan.specs.declared.fields.Form.TheVariants.{Number, Pair, Text, Link}
 use Rattle.layout_plan.specs.declared.fields.Count.{Count}
-use Rattle.layout_plan.specs.declared.fields.Count.TheVariants.{Fixed, Of}
+use Rattle.layout_plan.specs.declared.fields.Count.TheVariants.{Fixed, Of, OfSigned}
 use Rattle.layout_plan.specs.declared.fields.Field.{Field}
 use Rattle.layout_plan.specs.declared.faults.BodyReason.TheVariants.{BodyLong}
 use Rattle.layout_plan.specs.declared.faults.BodyFault.{BodyFault}
 use Rattle.layout_plan.specs.Layout.{IsEarlier, AreSound}
-use Rattle.layout_plan.specs.Body.{number_of, extent_of, item_count, AreCounted, IsSingle, IsListed, IsField, AreFields, IsTail, IsBody, HasBody}
+use Rattle.layout_plan.specs.Body.{number_of, signed_count, extent_of, item_count, AreCounted, IsSingle, IsListed, IsField, AreFields, IsTail, IsBody, HasBody}
 use Rattle.layout_plan.specs.BodyLaws.{FaultOrBody, BodiesAreUnique}
 use Rattle.std.specs.Result.{result_err}
 use Rattle.layout_plan.specs.Reading.{Found, and_then, found_map, number_in, pair_in, text_in, link_in, items_in, single_in, listed_in, field_in, at_field, fields_in, ended, body_in, fault_of}
@@ -90,10 +91,10 @@ listed_in-exact order Text n =
     from (value.Texts xs) front s = (xs, refl, s)
     from v front s = absurd s
 listed_in-exact order Link n =
-    found_map-exact value.Link (link_in order) (IsLink order) (IsListed order Link n) (link_in-exact order) (λ link front r. r) from
+    found_map-exact value.Links (items_in (link_in order) n) (AreCounted (IsLink order) n) (IsListed order Link n) (items_in-exact (link_in order) (IsLink order) (link_in-exact order) n) (λ xs front r. r) from
   where
-    from : (v : Value) (front : List ℕ) → IsListed order Link n v front → (link : _) × (value.Link link ≡ v) × IsLink order link front
-    from (value.Link link) front s = (link, refl, s)
+    from : (v : Value) (front : List ℕ) → IsListed order Link n v front → (xs : List StructLink) × (value.Links xs ≡ v) × AreCounted (IsLink order) n xs front
+    from (value.Links xs) front s = (xs, refl, s)
     from v front s = absurd s
 
 pub field_in-exact : (order : Order) (numbers : List ℕ) (form : Form) (counts : List Count) → IsExact (field_in order numbers form counts) (IsField order numbers form counts)
@@ -121,6 +122,7 @@ All-others P x xs h = λ k d lt. h (suc k) d (omega arith)
 extent_of-earlier : (numbers more : List ℕ) (c : Count) → IsEarlier (length numbers) c → extent_of (numbers ++ more) c ≡ extent_of numbers c
 extent_of-earlier numbers more (Fixed n) h = refl
 extent_of-earlier numbers more (Of k) h = get_or-append numbers more 0 k h
+extent_of-earlier numbers more (OfSigned k width) h = ap (signed_count width) (get_or-append numbers more 0 k h)
 
 pub item_count-earlier : (numbers more : List ℕ) (counts : List Count) → All (IsEarlier (length numbers)) counts → item_count (numbers ++ more) counts ≡ item_count numbers counts
 item_count-earlier numbers more [] h = refl

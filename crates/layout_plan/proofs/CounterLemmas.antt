@@ -42,7 +42,7 @@ listed-number order (Number Four) n (value.Nums xs) bytes s = refl
 listed-number order (Number Eight) n (value.Nums xs) bytes s = refl
 listed-number order (Pair width) n (value.Pairs xs) bytes s = refl
 listed-number order Text n (value.Texts xs) bytes s = refl
-listed-number order Link n (value.Link link) bytes s = refl
+listed-number order Link n (value.Links xs) bytes s = refl
 listed-number order form n v bytes s = absurd s
 
 single-number : (order : Order) (form : Form) (v : Value) (front rest : List ℕ) → IsSingle order form v front → number_of v ≡ number_at order form [] (front ++ rest)

@@ -1,5 +1,5 @@
 -- What small bodies hold by the definitions.
-use Rattle.std.proofs.Common.{◌≡◌, ℕ, List, [], ◌∷◌, Ok, Err, refl}
+use Rattle.std.proofs.Common.{false, ◌≡◌, ℕ, List, [], ◌∷◌, Ok, Err, refl}
 use Rattle.scalar_types.specs.declared.Order.TheVariants.{Big, Little}
 use Rattle.scalar_types.specs.declared.Width.TheVariants.{One, Two, Four, Eight}
 use Rattle.record_values.specs.declared.values.Value.TheVariants as value
@@ -13,12 +13,12 @@ use Rattle.layout_plan.specs.Reading.{body_in, items_in}
 use Rattle.layout_plan.specs.Marks.{is_varied, numbers_where, marks_from, first_mark, mark_of, place_of}
 
 single : Form → List Field
-single form = record { form = form; counts = [] } ∷ []
+single form = record { form = form; counts = []; is_sum = false } ∷ []
 
 -- two numbers of eight bytes, and a list of numbers of two bytes with these two as dimensions
 table : List Field
 table =
-    record { form = Number Eight; counts = [] } ∷ record { form = Number Eight; counts = [] } ∷ record { form = Number Two; counts = Of 0 ∷ Of 1 ∷ [] } ∷ []
+    record { form = Number Eight; counts = []; is_sum = false } ∷ record { form = Number Eight; counts = []; is_sum = false } ∷ record { form = Number Two; counts = Of 0 ∷ Of 1 ∷ []; is_sum = false } ∷ []
 
 -- 2^64 - 1 times 2 items, and no byte for them
 table-short : body_in Little table (255 ∷ 255 ∷ 255 ∷ 255 ∷ 255 ∷ 255 ∷ 255 ∷ 255 ∷ 2 ∷ 0 ∷ 0 ∷ 0 ∷ 0 ∷ 0 ∷ 0 ∷ 0 ∷ []) ≡ Err (record { field = 2; reason = BodyShort })
@@ -69,7 +69,7 @@ pair-complex = refl
 -- a number of two bytes, a text, a number of four, a link, and a list that counts by the first field
 five : List Field
 five =
-    record { form = Number Two; counts = [] } ∷ record { form = Text; counts = [] } ∷ record { form = Number Four; counts = [] } ∷ record { form = Link; counts = [] } ∷ record { form = Number Two; counts = Of 0 ∷ [] } ∷ []
+    record { form = Number Two; counts = []; is_sum = false } ∷ record { form = Text; counts = []; is_sum = false } ∷ record { form = Number Four; counts = []; is_sum = false } ∷ record { form = Link; counts = []; is_sum = false } ∷ record { form = Number Two; counts = Of 0 ∷ []; is_sum = false } ∷ []
 
 mark : ℕ → ℕ → Mark
 mark varied skip = record { varied = varied; skip = skip }

@@ -9,7 +9,7 @@ use Rattle.record_values.specs.declared.values.Value.{Value}
 use Rattle.record_values.specs.declared.values.Value.TheVariants as value
 use Rattle.layout_plan.specs.declared.fields.Form.TheVariants.{Number, Text}
 use Rattle.layout_plan.specs.declared.fields.Count.{Count}
-use Rattle.layout_plan.specs.declared.fields.Count.TheVariants.{Fixed, Of}
+use Rattle.layout_plan.specs.declared.fields.Count.TheVariants.{Fixed, Of, OfSigned}
 use Rattle.layout_plan.specs.declared.fields.Field.{Field}
 use Rattle.layout_plan.specs.declared.faults.BodyReason.{BodyReason}
 use Rattle.layout_plan.specs.declared.faults.BodyFault.{BodyFault}
@@ -37,16 +37,17 @@ AreFields-more order numbers more i (f ∷ fs) (v ∷ vs) bytes sound le (front,
     IsEarlier-later : (c : Count) → IsEarlier i c → IsEarlier (length numbers) c
     IsEarlier-later (Fixed n) h = tt
     IsEarlier-later (Of k) h = omega arith
+    IsEarlier-later (OfSigned k width) h = omega arith
 
     earlier : All (IsEarlier (length numbers)) f.counts
     earlier k d lt = IsEarlier-later (get_or f.counts k d) (sound.0 k d lt)
 
-AreSound-take : (i k : ℕ) (fields : List Field) → AreSound i fields → AreSound i (take k fields)
+pub AreSound-take : (i k : ℕ) (fields : List Field) → AreSound i fields → AreSound i (take k fields)
 AreSound-take i zero fields sound = tt
 AreSound-take i (suc k) [] sound = tt
 AreSound-take i (suc k) (f ∷ fs) sound = (sound.0, AreSound-take (i + 1) k fs sound.1)
 
-AreFields-length : (order : Order) (numbers : List ℕ) (fields : List Field) (values : List Value) (bytes : List ℕ) → AreFields order numbers fields values bytes → length fields ≡ length values
+pub AreFields-length : (order : Order) (numbers : List ℕ) (fields : List Field) (values : List Value) (bytes : List ℕ) → AreFields order numbers fields values bytes → length fields ≡ length values
 AreFields-length order numbers [] [] bytes s = refl
 AreFields-length order numbers [] (v ∷ vs) bytes s = absurd s
 AreFields-length order numbers (f ∷ fs) [] bytes s = absurd s
@@ -59,7 +60,7 @@ body-fields order fields sound bytes values tail body =
     let m = and_then-Ok (fields_in order [] fields bytes) (ended (length fields)) (values, tail) (body_in-again order fields sound bytes values tail body) in
     m.1 ∙ ap Ok (ended-tail (length fields) m.0 (values, tail) m.2).1
 
-front-take : (bytes front : List ℕ) (at : ℕ) → bytes ≡ front ++ drop at bytes → at ≤ length bytes → front ≡ take at bytes
+pub front-take : (bytes front : List ℕ) (at : ℕ) → bytes ≡ front ++ drop at bytes → at ≤ length bytes → front ≡ take at bytes
 front-take bytes front at split le =
     let size : length front ≡ at = omega (arith, ap length split ∙ length-append front (drop at bytes), length-drop at bytes) in
     sym (take_at front (drop at bytes) at size) ∙ ap (take at) (sym split)
@@ -133,18 +134,18 @@ reached-found order fields bytes k known ends (Err fault) sound (values, tail, b
     apart e = cc
 
 -- a number without dimension
-number_in-here : (order : Order) (numbers : List ℕ) (width : Width) (f : Field) (bytes rest : List ℕ) (v : Value) → f ≡ record { form = Number width; counts = [] } → field_in order numbers f.form f.counts bytes ≡ Ok (v, rest) → v ≡ value.Num (number_of v)
-number_in-here order numbers width f bytes rest v is e =
-    let m = found_map-Ok value.Num (number_in order width bytes) (v, rest) (ap (λ (f : Field). field_in order numbers f.form f.counts bytes) (sym is) ∙ e) in
+number_in-here : (order : Order) (numbers : List ℕ) (width : Width) (f : Field) (bytes rest : List ℕ) (v : Value) → f.form ≡ Number width → f.counts ≡ [] → field_in order numbers f.form f.counts bytes ≡ Ok (v, rest) → v ≡ value.Num (number_of v)
+number_in-here order numbers width f bytes rest v form counts e =
+    let m = found_map-Ok value.Num (number_in order width bytes) (v, rest) (sym (λ i. field_in order numbers (form i) (counts i) bytes) ∙ e) in
     subst (λ (z : Value × List ℕ). z.0 ≡ value.Num (number_of z.0)) m.2 refl
 
 pub number-here : (order : Order) (fields : List Field) (bytes : List ℕ) (k n : ℕ) (f : Field) (p : Placed) → IsNumberField fields k → IsPlaced order fields bytes k p → slice_get fields k ≡ Some f → n ≡ number_at order f.form f.counts (drop p.start bytes) → HasNumberAt order fields bytes k n
-number-here order fields bytes k n f p (width, is) placed at number_is values tail body =
-    let same = same_Some placed.field (record { form = Number width; counts = [] }) (sym placed.is ∙ is) in
+number-here order fields bytes k n f p (width, single) placed at number_is values tail body =
+    let same = same_Some placed.field single.field (sym placed.is ∙ single.is) in
     let this = same_Some placed.field f (sym placed.is ∙ at) in
     let number = number_at-value order placed.numbers placed.field.form placed.field.counts (drop p.start bytes) placed.value (drop (p.start + p.length) bytes) placed.found ∙ ap (λ (f : Field). number_at order f.form f.counts (drop p.start bytes)) this ∙ sym number_is in
     placed.here values tail body
-    ∙ ap Some (number_in-here order placed.numbers width placed.field (drop p.start bytes) (drop (p.start + p.length) bytes) placed.value same placed.found ∙ ap value.Num number)
+    ∙ ap Some (number_in-here order placed.numbers width placed.field (drop p.start bytes) (drop (p.start + p.length) bytes) placed.value (ap (λ (f : Field). f.form) same ∙ single.form_is) (ap (λ (f : Field). f.counts) same ∙ single.single) placed.found ∙ ap value.Num number)
 
 -- a text stands between its length and its closing zero byte
 text-bytes : (order : Order) (text front : List ℕ) → IsText order text front → text ≡ take (length front - 3) (drop 2 front)
@@ -156,9 +157,9 @@ text-bytes order text front (inr s) =
     let none : length front - 3 ≡ 0 = omega (arith, s.size.size) in
     s.empty ∙ ap (λ n. take n (drop 2 front)) (sym none)
 
-text_in-here : (order : Order) (numbers : List ℕ) (f : Field) (bytes : List ℕ) (start size : ℕ) (v : Value) → f ≡ record { form = Text; counts = [] } → start + size ≤ length bytes → field_in order numbers f.form f.counts (drop start bytes) ≡ Ok (v, drop (start + size) bytes) → v ≡ value.Text (take (size - 3) (drop 2 (take size (drop start bytes))))
-text_in-here order numbers f bytes start size v is le e =
-    let m = found_map-Ok value.Text (text_in order (drop start bytes)) (v, drop (start + size) bytes) (ap (λ (f : Field). field_in order numbers f.form f.counts (drop start bytes)) (sym is) ∙ e) in
+text_in-here : (order : Order) (numbers : List ℕ) (f : Field) (bytes : List ℕ) (start size : ℕ) (v : Value) → f.form ≡ Text → f.counts ≡ [] → start + size ≤ length bytes → field_in order numbers f.form f.counts (drop start bytes) ≡ Ok (v, drop (start + size) bytes) → v ≡ value.Text (take (size - 3) (drop 2 (take size (drop start bytes))))
+text_in-here order numbers f bytes start size v form counts le e =
+    let m = found_map-Ok value.Text (text_in order (drop start bytes)) (v, drop (start + size) bytes) (sym (λ i. field_in order numbers (form i) (counts i) (drop start bytes)) ∙ e) in
     let g = (text_in-exact order).found (drop start bytes) m.0 m.1 in
     let rest = ap (λ (z : Value × List ℕ). z.1) m.2 ∙ sym (drop-drop size start bytes) in
     let front = front-take (drop start bytes) g.0 size (g.1 ∙ ap (λ r. g.0 ++ r) rest) (omega (arith, length-drop start bytes)) in
@@ -168,9 +169,9 @@ text_in-here order numbers f bytes start size v is le e =
 
 -- a text without dimension
 pub text-here : (order : Order) (fields : List Field) (bytes : List ℕ) (k : ℕ) (p : Placed) → IsTextField fields k → IsPlaced order fields bytes k p → HasTextAt order fields bytes k (take (p.length - 3) (drop 2 (take p.length (drop p.start bytes))))
-text-here order fields bytes k p is placed values tail body =
-    let same = same_Some placed.field (record { form = Text; counts = [] }) (sym placed.is ∙ is) in
-    placed.here values tail body ∙ ap Some (text_in-here order placed.numbers placed.field bytes p.start p.length placed.value same placed.within placed.found)
+text-here order fields bytes k p single placed values tail body =
+    let same = same_Some placed.field single.field (sym placed.is ∙ single.is) in
+    placed.here values tail body ∙ ap Some (text_in-here order placed.numbers placed.field bytes p.start p.length placed.value (ap (λ (f : Field). f.form) same ∙ single.form_is) (ap (λ (f : Field). f.counts) same ∙ single.single) placed.within placed.found)
 
 -- the slice of a spelling
 pub text-slice : (bytes : List ℕ) (start size n : ℕ) → n ≡ size → start + size ≤ length bytes → take (length (take n (drop start bytes)) - 3) (drop 2 (take n (drop start bytes))) ≡ take (size - 3) (drop 2 (take size (drop start bytes)))

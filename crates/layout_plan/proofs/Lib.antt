@@ -5,8 +5,15 @@ pub mod SpelledLemmas
 pub mod WalkLemmas
 pub mod Examples
 pub mod LentLemmas
+pub mod AppendLemmas
 pub mod LinkLemmas
+pub mod ReplaceLemmas
+pub mod FaultLemmas
+pub mod LengthLemmas
 pub mod MarkLemmas
 pub mod ReadingLemmas
 pub mod ReachLemmas
 pub mod CounterLemmas
+pub mod WrittenLemmas
+pub mod RespelledLemmas
+pub mod RewriteLemmas

@@ -106,6 +106,13 @@ length-numbers_where such i (f ∷ fs) =
     by true others = omega arith
     by false others = omega arith
 
+-- all varied fields stand before the end
+pub mark_of-all : (fields : List Field) → (mark_of fields (length fields)).varied ≡ length (numbers_where is_varied 0 fields)
+mark_of-all fields =
+    mark_of-varied fields (length fields)
+    ∙ ap (count_by is_varied) (take_all (length fields) fields (omega arith))
+    ∙ sym (length-numbers_where is_varied 0 fields)
+
 -- the j-th number is that of the field after j others that are such
 pub record IsNumbered (such : Field → Bool) (fields : List Field) (j i : ℕ) : Type 0 where
   pub field : Field

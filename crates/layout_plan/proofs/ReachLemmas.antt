@@ -116,6 +116,13 @@ ArePlaces-at order fields body k i ends mark at places le is = record {
     reached : IsReached order fields body i (place_of ends mark) (places.reached i le).0
     reached = subst (λ m. IsReached order fields body i (place_of ends m) (places.reached i le).0) (sym is) (places.reached i le).1
 
+-- fewer places are known too
+pub ArePlaces-fewer : (order : Order) (fields : List Field) (body : List ℕ) (k i : ℕ) (ends : List ℕ) → i ≤ k → ArePlaces order fields body k ends → ArePlaces order fields body i ends
+ArePlaces-fewer order fields body k i ends le places = record {
+  room = omega (arith, places.room, IsLater-varied (mark_of fields i) (mark_of fields k) (mark_of-later fields i k le));
+  reached = λ j lt. places.reached j (omega arith);
+}
+
 -- nothing is walked over yet
 pub IsWalked-none : (order : Order) (fields : List Field) (body ends : List ℕ) → IsWalked order fields body 0 ends 0
 IsWalked-none order fields body ends = record {

@@ -24,8 +24,8 @@ use Rattle.layout_plan.specs.Reading.{Found, and_then, found_map, number_in, pai
 use Rattle.layout_plan.specs.Marks.{fixed_width, is_varied}
 use Rattle.layout_plan.specs.Spelled.{IsSpelled, Tells, IsTextSpelled, TellsText, TellsLength, zero_texts_of}
 use Rattle.layout_plan.specs.Exact.{IsExact}
-use Rattle.record_values.specs.Spelling.{IsNumber, IsPair, IsText}
-use Rattle.layout_plan.proofs.ExactLemmas.{bytes_in-enough, bytes_in-few, number_in-exact, pair_in-exact, text_in-exact, items_in-exact}
+use Rattle.record_values.specs.Spelling.{IsNumber, IsPair, IsText, IsLink}
+use Rattle.layout_plan.proofs.ExactLemmas.{bytes_in-enough, bytes_in-few, number_in-exact, pair_in-exact, text_in-exact, link_in-exact, items_in-exact}
 
 -- a product of which a factor is capped is capped alike
 pub capped-product : (x y cap : ℕ) → min (min x cap * y) cap ≡ min (x * y) cap
@@ -161,9 +161,9 @@ pub listed_pairs-Tells : (order : Order) (width : Width) (count : ℕ) (bytes : 
 listed_pairs-Tells order width count bytes r size capped short told =
     plain-Tells (items_in (pair_in order width) count) (count * (2 * size_of width)) value.Pairs (Pair width) (fixed-items (pair_in order width) (2 * size_of width) (subst (IsFixed (pair_in order width)) (omega arith) (fixed-pair order width)) count) (λ bytes rest xs e. ap (λ n. n * (2 * size_of width)) (items-length (pair_in order width) (IsPair order width) (pair_in-exact order width) count bytes rest xs e)) bytes r (TellsLength-exact (count * (2 * size_of width)) size bytes r capped short told)
 
-pub listed_link-Tells : (order : Order) (count : ℕ) (bytes : List ℕ) (r : Result Spelled BodyReason) → TellsLength 6 bytes r → Tells (listed_in order Link count bytes) Link bytes r
-listed_link-Tells order count bytes r told =
-    plain-Tells (link_in order) 6 value.Link Link (fixed-link order) (λ bytes rest link e. refl) bytes r told
+pub listed_links-Tells : (order : Order) (count : ℕ) (bytes : List ℕ) (r : Result Spelled BodyReason) (size : ℕ) → size ≡ min (count * 6) (2 ^ 64 - 1) → length bytes < 2 ^ 64 - 1 → TellsLength size bytes r → Tells (listed_in order Link count bytes) Link bytes r
+listed_links-Tells order count bytes r size capped short told =
+    plain-Tells (items_in (link_in order) count) (count * 6) value.Links Link (fixed-items (link_in order) 6 (fixed-link order) count) (λ bytes rest xs e. ap (λ n. n * 6) (items-length (link_in order) (IsLink order) (link_in-exact order) count bytes rest xs e)) bytes r (TellsLength-exact (count * 6) size bytes r capped short told)
 
 -- a text's length, and what stands after it
 text_in-number : (order : Order) (bytes : List ℕ) (n : ℕ) → 2 ≤ length bytes → n ≡ number order (take 2 bytes) → text_in order bytes ≡ text_of_length (n, drop 2 bytes)
@@ -306,6 +306,11 @@ pair-shrinks order width bytes x e =
     let f = (pair_in-exact order width).found bytes x e in
     omega (arith, size_of-low width, f.2.first.size, ap length f.2.split ∙ length-append f.2.front f.2.back, ap length f.1 ∙ length-append f.0 x.1)
 
+link-shrinks : (order : Order) (bytes : List ℕ) (x : StructLink × List ℕ) → link_in order bytes ≡ Ok x → length x.1 < length bytes
+link-shrinks order bytes x e =
+    let f = (link_in-exact order).found bytes x e in
+    omega (arith, f.2.class.size, f.2.instance.size, ap length f.2.split ∙ length-append f.2.front f.2.back, ap length f.1 ∙ length-append f.0 x.1)
+
 text-size : (order : Order) (text bytes : List ℕ) → IsText order text bytes → 2 ≤ length bytes
 text-size order text bytes (inl s) =
     omega (arith, s.size.size, ap length s.split ∙ length-append (s.front ++ text) (0 ∷ []), length-append s.front text)
@@ -323,7 +328,7 @@ listed_in-capped order (Number Four) n bytes = ap (found_map value.Nums) (items_
 listed_in-capped order (Number Eight) n bytes = ap (found_map value.Nums) (items_in-capped (number_in order Eight) (number-shrinks order Eight) n bytes)
 listed_in-capped order (Pair width) n bytes = ap (found_map value.Pairs) (items_in-capped (pair_in order width) (pair-shrinks order width) n bytes)
 listed_in-capped order Text n bytes = ap (found_map value.Texts) (items_in-capped (text_in order) (text-shrinks order) n bytes)
-listed_in-capped order Link n bytes = refl
+listed_in-capped order Link n bytes = ap (found_map value.Links) (items_in-capped (link_in order) (link-shrinks order) n bytes)
 
 -- the field with dimensions
 pub field_in-listed : (order : Order) (numbers : List ℕ) (form : Form) (counts : List Count) (bytes : List ℕ) (count : ℕ) → (counts ≡ [] → ⊥) → count ≡ min (item_count numbers counts) (length bytes + 1) → field_in order numbers form counts bytes ≡ listed_in order form count bytes

@@ -1,5 +1,5 @@
 -- A body read field by field.
-use Rattle.std.proofs.Common.{◌≡◌, ℕ, ◌+◌, ◌-◌, ◌<◌, ◌⊎◌, ◌↔◌, IsOk, List, [], ◌∷◌, ◌++◌, length, drop, get_or, map, count_by, Result, Ok, Err, refl, sym, ap, ◌∙◌, subst, arith, append_assoc}
+use Rattle.std.proofs.Common.{◌≡◌, ℕ, ◌+◌, ◌-◌, ◌<◌, ◌⊎◌, ◌↔◌, IsOk, List, [], ◌∷◌, ◌++◌, length, drop, get_or, map, Result, Ok, Err, refl, sym, ap, ◌∙◌, subst, arith, append_assoc}
 use Rattle.std.proofs.lemmas.List.{length-drop, take_all, at_drop_more}
 use Rattle.std.proofs.lemmas.Bool.{false≢true}
 use Rattle.scalar_types.specs.declared.Order.{Order}
@@ -9,11 +9,11 @@ use Rattle.layout_plan.specs.declared.faults.BodyReason.TheVariants.{BodyLong}
 use Rattle.layout_plan.specs.declared.faults.BodyFault.{BodyFault}
 use Rattle.layout_plan.specs.Layout.{AreSound}
 use Rattle.layout_plan.specs.Body.{number_of, values_length, IsMeasured, IsBody, HasBody}
-use Rattle.layout_plan.specs.Links.{is_link}
+use Rattle.layout_plan.specs.Links.{HasLinks}
 use Rattle.layout_plan.specs.Walking.{IsReached, TellsBody}
 use Rattle.layout_plan.specs.declared.faults.Measured.{Measured}
 use Rattle.layout_plan.specs.Reading.{and_then, found_map, field_in, at_field, fields_in, ended, body_in}
-use Rattle.layout_plan.proofs.LinkLemmas.{fields-links}
+use Rattle.layout_plan.proofs.LengthLemmas.{body-length}
 use Rattle.layout_plan.proofs.BodyLemmas.{ended-Ok, ended-Err, body_in-found, body_in-again}
 
 pub found_map-none : (r : Result (List Value × List ℕ) BodyFault) → r ≡ found_map (λ others. [] ++ others) r
@@ -43,18 +43,22 @@ pub IsReached-all : (order : Order) (fields : List Field) (body : List ℕ) (at 
 IsReached-all order fields body at zero_texts before =
     ap (λ fs. fields_in order [] fs body) (sym (take_all (length fields) fields (omega arith))) ∙ before.reads
 
-pub IsReached-ends : (order : Order) (fields : List Field) (body : List ℕ) (at zero_texts links : ℕ) → AreSound 0 fields → IsReached order fields body (length fields) at zero_texts → links ≡ count_by is_link fields → (length body - at ≡ 0) ⊎ (length body - at ≡ 4) → IsMeasured order fields body links zero_texts
+pub IsReached-body : (order : Order) (fields : List Field) (body : List ℕ) (at zero_texts : ℕ) → AreSound 0 fields → (before : IsReached order fields body (length fields) at zero_texts) → (length body - at ≡ 0) ⊎ (length body - at ≡ 4) → IsBody order fields before.values (drop at body) body
 unfolding body_in
+IsReached-body order fields body at zero_texts sound before ends =
+    body_in-found order fields sound body before.values (drop at body) (ap (λ r. and_then r (ended (length fields))) (IsReached-all order fields body at zero_texts before) ∙ ended-Ok (length fields) (before.values, drop at body) (subst (λ n. (n ≡ 0) ⊎ (n ≡ 4)) (sym (length-drop at body)) ends))
+
+pub IsReached-ends : (order : Order) (fields : List Field) (body : List ℕ) (at zero_texts links : ℕ) → AreSound 0 fields → IsReached order fields body (length fields) at zero_texts → HasLinks order fields body links → (length body - at ≡ 0) ⊎ (length body - at ≡ 4) → IsMeasured order fields body links zero_texts
 IsReached-ends order fields body at zero_texts links sound before counted ends = record {
   values = before.values;
   tail = drop at body;
   body = is_body;
-  links_are = counted ∙ sym (fields-links order (map number_of before.values) fields before.values is_body.front is_body.spelled);
-  zero_texts_are = let all = ap (λ fs. values_length fs before.values) (take_all (length fields) fields (omega arith)) in omega (arith, before.sizes, before.within, all, length-drop at body);
+  links_are = counted before.values (drop at body) is_body;
+  zero_texts_are = let all = ap (λ fs. values_length fs before.values) (take_all (length fields) fields (omega arith)) in omega (arith, before.sizes, before.within, all, length-drop at body, body-length order fields before.values (drop at body) body is_body);
 }
   where
     is_body : IsBody order fields before.values (drop at body) body
-    is_body = body_in-found order fields sound body before.values (drop at body) (ap (λ r. and_then r (ended (length fields))) (IsReached-all order fields body at zero_texts before) ∙ ended-Ok (length fields) (before.values, drop at body) (subst (λ n. (n ≡ 0) ⊎ (n ≡ 4)) (sym (length-drop at body)) ends))
+    is_body = IsReached-body order fields body at zero_texts sound before ends
 
 pub IsReached-long : (order : Order) (fields : List Field) (body : List ℕ) (at zero_texts : ℕ) → IsReached order fields body (length fields) at zero_texts → (length body - at ≡ 0 → ⊥) → (length body - at ≡ 4 → ⊥) → body_in order fields body ≡ Err (record { field = length fields; reason = BodyLong })
 unfolding body_in

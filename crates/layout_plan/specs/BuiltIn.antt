@@ -1,5 +1,5 @@
 -- The layouts of the two structures that a dictionary is made of (LIGO-T970130 v8: FrSH, class 1, and FrSE, class 2).
-use Rattle.std.specs.Prelude.{List, [], ◌∷◌}
+use Rattle.std.specs.Prelude.{false, List, [], ◌∷◌}
 use Rattle.scalar_types.specs.declared.Width.TheVariants.{Two}
 use Rattle.layout_plan.specs.declared.fields.Form.{Form}
 use Rattle.layout_plan.specs.declared.fields.Form.TheVariants.{Number, Text}
@@ -7,7 +7,7 @@ use Rattle.layout_plan.specs.declared.fields.Field.{Field}
 
 -- a field without dimension
 abbrev pub single : Form → Field
-single form = record { form = form; counts = [] }
+single form = record { form = form; counts = []; is_sum = false }
 
 -- FrSH: the name of a structure, its class, a comment
 abbrev pub structure_fields : List Field

@@ -1,4 +1,4 @@
--- Readings that give just what a relation has.
+-- Of the inside. Readings that give just what a relation has.
 use Rattle.std.specs.Prelude.{◌≡◌, List, ◌++◌, Result, Ok, ℕ}
 
 -- What is found stands at the front in the relation; and what stands at the front in the relation is found, whatever comes after it.

@@ -4,6 +4,7 @@ use Rattle.scalar_types.specs.declared.Order.{Order}
 use Rattle.scalar_types.specs.declared.Width.{Width}
 use Rattle.record_values.specs.declared.values.Value.{Value}
 use Rattle.record_values.specs.declared.values.Value.TheVariants as value
+use Rattle.layout_plan.specs.declared.fields.Form.{Form}
 use Rattle.layout_plan.specs.declared.fields.Form.TheVariants.{Number, Text}
 use Rattle.layout_plan.specs.declared.fields.Field.{Field}
 use Rattle.layout_plan.specs.declared.lent.Placed.{Placed}
@@ -26,14 +27,21 @@ HasNumberAt order fields bytes k n = HasValueAt order fields bytes k (value.Num 
 abbrev pub HasTextAt : Order → List Field → List ℕ → ℕ → List ℕ → Type 0
 HasTextAt order fields bytes k text = HasValueAt order fields bytes k (value.Text text)
 
+-- field k is a single item of this form
+pub record IsSingleField (fields : List Field) (k : ℕ) (form : Form) : Type 0 where
+  pub field : Field
+  pub is : slice_get fields k ≡ Some field
+  pub form_is : field.form ≡ form
+  pub single : field.counts ≡ []
+
 -- field k is a whole number, a character or a real without dimension
 abbrev pub IsNumberField : List Field → ℕ → Type 0
 IsNumberField fields k =
-    (width : Width) × (slice_get fields k ≡ Some (record { form = Number width; counts = [] }))
+    (width : Width) × IsSingleField fields k (Number width)
 
 -- field k is a text without dimension
 abbrev pub IsTextField : List Field → ℕ → Type 0
-IsTextField fields k = slice_get fields k ≡ Some (record { form = Text; counts = [] })
+IsTextField fields k = IsSingleField fields k Text
 
 -- what is told of field k
 pub record IsPlaced (order : Order) (fields : List Field) (bytes : List ℕ) (k : ℕ) (p : Placed) : Type 0 where

@@ -1,4 +1,4 @@
--- Where fields stand: marks that tell a field's place from the ends of the fields whose bytes a body alone tells.
+-- Of the inside. Where fields stand: marks that tell a field's place from the ends of the fields whose bytes a body alone tells.
 use Rattle.std.specs.Prelude.{◌≡◌, ℕ, zero, suc, ◌+◌, ◌*◌, Bool, if◌then◌else◌, List, [], ◌∷◌, Option, Some, None, is_none, slice_index}
 use Rattle.scalar_types.specs.Number.{size_of}
 use Rattle.layout_plan.specs.declared.fields.Form.{Form}

@@ -80,7 +80,7 @@ listed_in order (Number One) n bytes = found_map value.Bytes (items_in (number_i
 listed_in order (Number width) n bytes = found_map value.Nums (items_in (number_in order width) n bytes)
 listed_in order (Pair width) n bytes = found_map value.Pairs (items_in (pair_in order width) n bytes)
 listed_in order Text n bytes = found_map value.Texts (items_in (text_in order) n bytes)
-listed_in order Link n bytes = found_map value.Link (link_in order bytes)
+listed_in order Link n bytes = found_map value.Links (items_in (link_in order) n bytes)
 
 -- the value of a field, by the numbers of the fields before it
 abbrev pub field_in : Order → List ℕ → Form → List Count → List ℕ → Found Value

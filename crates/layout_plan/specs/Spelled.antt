@@ -1,4 +1,4 @@
--- What is told of one field's spelling.
+-- Of the inside. What is told of one field's spelling.
 use Rattle.std.specs.Prelude.{◌≡◌, ℕ, ◌+◌, ◌≤◌, ◌<◌, ◌==◌, if◌then◌else◌, List, length, drop, Result, Ok, Err}
 use Rattle.record_values.specs.declared.values.Value.{Value}
 use Rattle.layout_plan.specs.declared.fields.Form.{Form}

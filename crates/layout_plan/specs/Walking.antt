@@ -1,4 +1,4 @@
--- What a walk over fields tells, and what is told of a body.
+-- Of the inside. What a walk over fields tells, and what is told of a body.
 use Rattle.std.specs.Prelude.{◌≡◌, ◌+◌, ◌≤◌, ◌<◌, List, [], ℕ, Result, Ok, Err, length, take, drop, map}
 use Rattle.record_values.specs.declared.values.Value.{Value}
 use Rattle.layout_plan.specs.declared.walking.Walked.{Walked}

@@ -40,5 +40,6 @@ fn single(alloc: Global, form: Form) -> Field
     Field {
         form,
         counts: CountList::new(alloc),
+        is_sum: false,
     }
 }

@@ -20,6 +20,8 @@ pub enum Count {
     Fixed(u32),
     /// As many as the number in the field of this number, from 0.
     Of(u32),
+    /// As many as the signed number of this width in the field of this number, and none where it is below zero.
+    OfSigned(u32, Width),
 }
 
 /// The dimensions of a field, the last of which runs fastest. There are none where the field is a single item.
@@ -30,4 +32,6 @@ pub type CountList = ItemList<Count>;
 pub struct Field {
     pub form: Form,
     pub counts: CountList,
+    /// Whether it is the check sum of the structure: the last element, `chkSum INT_4U`.
+    pub is_sum: bool,
 }

@@ -1,7 +1,9 @@
 //! Fields read from the bytes of a body, without its values. Each call walks over the varied fields up to the one that it reads.
-ghost use Rattle.std.specs.Prelude.{◌≡◌, ◌+◌, ◌≤◌, ◌<◌, ◌-◌, length, take, drop};
+ghost use Rattle.std.specs.Prelude.{◌≡◌, ℕ, ◌+◌, ◌≤◌, ◌<◌, ◌-◌, ◌^◌, List, length, take, drop};
+ghost use Rattle.scalar_types.specs.declared.Order.{Order};
 ghost use Rattle.layout_plan.specs.Body.{HasBody};
 ghost use Rattle.layout_plan.specs.Marks.{mark_of};
+ghost use Rattle.layout_plan.specs.Walking.{ArePlaces};
 ghost use Rattle.layout_plan.specs.Lent.{EndsAt, HasNumberAt, HasTextAt, IsNumberField, IsTextField, IsPlaced};
 
 use crate::Plan;
@@ -81,11 +83,31 @@ fn place_in(plan: &Plan, order: Order, body: &[u8], field: u32, ends: &mut [usiz
     ensures { IsPlaced order plan.now body.now field result }
 {
     let k = field as usize;
-    let mark = plan.mark(k);
-    let end = walk(plan, k + 1, order, body, ends).unwrap().at;
-    let start = place(mark, ends);
+    walk_body(plan, k + 1, order, body, ends);
+    place_by(plan, k, ends)
+}
+
+/// Finds where the varied ones among the first k fields end, in a body that spells the layout.
+pub fn walk_body(plan: &Plan, k: usize, order: Order, body: &[u8], ends: &mut [usize])
+    requires body { HasBody order plan.now body.now }
+    requires fields { k ≤ length plan.now }
+    requires room { (mark_of plan.now k).varied ≤ length ends.old }
+    ensures { ArePlaces order plan.now body.now k ends.new }
+{
+    let count = plan.fields().len();
+    prove!(k <= count);
+    let _walked = walk(plan, k, order, body, ends).unwrap();
+}
+
+/// The place of field k, by the ends of the varied fields up to it.
+pub fn place_by(plan: &Plan, k: usize, ends: &[usize]) -> Placed
+    requires field { k < length plan.now }
+    requires places { (order : Order) × (body : List ℕ) × ArePlaces order plan.now body (k + 1) ends.now × (length body < 2 ^ 63) }
+    ensures { (order : Order) (body : List ℕ) → ArePlaces order plan.now body (k + 1) ends.now → IsPlaced order plan.now body k result }
+{
+    let start = place(plan.mark(k), ends);
     Placed {
         start,
-        length: end - start,
+        length: place(plan.mark(k + 1), ends) - start,
     }
 }

@@ -13,18 +13,21 @@ mod marks;
 mod measuring;
 mod plan;
 mod plans;
+mod respelled;
+mod rewriting;
 mod spelled;
 mod walking;
 
 pub use built_in::{element_plan, structure_plan};
 pub use faults::{BodyFault, BodyReason, Measured};
 pub use fields::{Count, CountList, Field, Form};
-pub use laws::{bodies_have_one_answer, layouts_are_sound};
+pub use laws::{bodies_have_one_answer, layouts_are_sound, lengths_are_told};
 pub use lent::{num_at, span_of, text_at};
-pub use links::{link_at, link_field};
-pub use measuring::measure;
+pub use links::{FieldLink, LINK_SIZE, link_at, link_field, push_links};
+pub use measuring::{TAIL_SIZE, measure};
 pub use plan::{Plan, compile};
 pub use plans::Plans;
+pub use rewriting::rewrite;
 pub use spelled::capped_count;
 
 #[cfg(test)]
@@ -33,3 +36,5 @@ mod tests;
 mod tests_of_built_in;
 #[cfg(test)]
 mod tests_of_plans;
+#[cfg(test)]
+mod tests_of_rewriting;

@@ -1,31 +1,196 @@
-//! Links read from the bytes of a body, without its values.
-ghost use Rattle.std.specs.Prelude.{◌≡◌, ◌≤◌, ◌<◌, Ok, length, drop, count_by};
+//! Links read from the bytes of a body, without its values: those of its fields in turn, and within a list those of its items.
+ghost use Rattle.std.specs.Prelude.{◌≡◌, ℕ, ◌+◌, ◌≤◌, ◌<◌, ◌++◌, List, Ok, length, drop, OnOk, OnErr};
+ghost use Rattle.scalar_types.specs.declared.Order.{Order};
+ghost use Rattle.type_text.specs.declared.types.Link.{Link as StructLink};
+ghost use Rattle.record_values.specs.Spelling.{IsLink, AreItems};
+ghost use Rattle.layout_plan.specs.declared.links.FieldLink.{FieldLink};
+ghost use Rattle.layout_plan.specs.Appends.{Appends};
+ghost use Rattle.layout_plan.specs.Body.{HasBody};
 ghost use Rattle.layout_plan.specs.Reading.{link_in};
-ghost use Rattle.layout_plan.specs.Links.{HasLink, HasLinkAt, IsLinkField, is_link};
+ghost use Rattle.layout_plan.specs.Marks.{mark_of};
+ghost use Rattle.layout_plan.specs.Walking.{ArePlaces};
+ghost use Rattle.layout_plan.specs.Links.{HasLink, HasLinkAt, HasLinkIn, IsLinkPlaced, IsReplaceable, AreLinks, links_with, HasLinks, is_link};
 
-use crate::lent::place_of;
+use crate::lent::{place_by, walk_body};
+use crate::walking::{FEW_FIELDS, FIELD_LIMIT};
 use crate::{Field, Form, Plan};
 use scalar_types::{Order, Width, read_num};
+use std::alloc::AllocError;
 use type_text::Link;
 
-/// The link of this number, from 0 in the order of the fields, in a body that spells the layout. Takes no memory.
+/// The bytes of a link: its class and its instance.
+pub const LINK_SIZE: usize = 6;
+
+/// A link of a body, and the number of the field that holds it, from 0.
+#[derive(Clone, Copy, Debug, PartialEq, Eq)]
+pub struct FieldLink {
+    pub field: u32,
+    pub link: Link,
+}
+
+/// Where a link of a body stands, and the number of the field that holds it.
+#[derive(Clone, Copy)]
+struct LinkPlace {
+    field: u32,
+    at: usize,
+}
+
+/// The link of this number, from 0, in a body that spells the layout. Takes no memory.
 pub fn link_at(plan: &Plan, order: Order, body: &[u8], k: u64) -> Link
     requires { HasLink order plan.now body.now k }
     ensures { HasLinkAt order plan.now body.now k result }
 {
-    let field = link_field(plan, k);
-    let placed = place_of(plan, order, body, field);
-    link_of(order, &body[placed.start..])
+    let at = link_place(plan, order, body, k).at;
+    link_of(order, &body[at..])
 }
 
-/// The number of the field that is the link of this number, from 0. Takes no memory.
-pub fn link_field(plan: &Plan, k: u64) -> u32
-    requires { k < count_by is_link plan.now }
-    ensures { IsLinkField plan.now k result }
+/// Where the six bytes of the link of this number, from 0, stand in a body that spells the layout: they begin so many bytes from
+/// its beginning. The bytes of another link in their place make a body of the same values, but for that link. Takes no memory.
+pub fn link_start(plan: &Plan, order: Order, body: &[u8], k: u64) -> usize
+    requires { HasLink order plan.now body.now k }
+    ensures within { result + 6 ≤ length body.now }
+    ensures replaced { IsReplaceable order plan.now body.now k result }
 {
-    plan.links()[k as usize]
+    link_place(plan, order, body, k).at
 }
 
+/// The number of the field that holds the link of this number, from 0, in a body that spells the layout. Takes no memory.
+pub fn link_field(plan: &Plan, order: Order, body: &[u8], k: u64) -> u32
+    requires { HasLink order plan.now body.now k }
+    ensures { HasLinkIn order plan.now body.now k result }
+{
+    link_place(plan, order, body, k).field
+}
+
+/// Appends the links of a body that spells the layout, in turn, each with its field. All of them cost one walk over the body.
+/// Where memory is out, `into` is as it was.
+pub fn push_links(
+    plan: &Plan,
+    order: Order,
+    body: &[u8],
+    into: &mut Vec<FieldLink>,
+) -> Result<(), AllocError>
+    requires { HasBody order plan.now body.now }
+    ensures ok { OnOk result (Appends (AreLinks order plan.now body.now) into.old.items into.new.items) }
+    ensures err { OnErr result (into.new.items ≡ into.old.items) }
+{
+    let start = into.len();
+    if push_all(plan, order, body, into).is_err() {
+        into.truncate(start);
+        return Err(AllocError);
+    }
+    Ok(())
+}
+
+/// The same, but that some links may stand there where memory is out.
+fn push_all(
+    plan: &Plan,
+    order: Order,
+    body: &[u8],
+    into: &mut Vec<FieldLink>,
+) -> Result<(), AllocError>
+    requires { HasBody order plan.now body.now }
+    ensures { Appends (λ links. OnOk result (AreLinks order plan.now body.now links)) into.old.items into.new.items }
+{
+    if plan.varied().len() <= FEW_FIELDS {
+        push_all_in(plan, order, body, into, &mut [0; FEW_FIELDS])
+    } else {
+        push_all_in(plan, order, body, into, &mut [0; FIELD_LIMIT])
+    }
+}
+
+/// The same, with room for where each varied field ends.
+fn push_all_in(
+    plan: &Plan,
+    order: Order,
+    body: &[u8],
+    into: &mut Vec<FieldLink>,
+    ends: &mut [usize],
+) -> Result<(), AllocError>
+    requires body { HasBody order plan.now body.now }
+    requires room { (mark_of plan.now (length plan.now)).varied ≤ length ends.old }
+    ensures { Appends (λ links. OnOk result (AreLinks order plan.now body.now links)) into.old.items into.new.items }
+{
+    walk_body(plan, plan.fields().len(), order, body, ends);
+    for field in plan.links() {
+        let here = place_by(plan, *field as usize, ends);
+        let rest = &body[here.start..];
+        push_field(order, *field, &rest[..here.length], into)?;
+    }
+    Ok(())
+}
+
+/// Appends the links that these bytes spell, which are those of a field.
+fn push_field(
+    order: Order,
+    field: u32,
+    bytes: &[u8],
+    into: &mut Vec<FieldLink>,
+) -> Result<(), AllocError>
+    ensures { Appends
+        (λ links. OnOk result ((items : List StructLink) → AreItems (IsLink order) items bytes.now → links ≡ links_with field items))
+        into.old.items
+        into.new.items }
+{
+    for i in 0..bytes.len() / LINK_SIZE {
+        into.push(FieldLink {
+            field,
+            link: link_of(order, &bytes[i * LINK_SIZE..]),
+        })?;
+    }
+    Ok(())
+}
+
+/// Where the link of this number stands.
+fn link_place(plan: &Plan, order: Order, body: &[u8], k: u64) -> LinkPlace
+    requires { HasLink order plan.now body.now k }
+    ensures placed { IsLinkPlaced order plan.now body.now k result }
+    ensures replaced { IsReplaceable order plan.now body.now k result.at }
+{
+    if plan.varied().len() <= FEW_FIELDS {
+        link_place_in(plan, order, body, k, &mut [0; FEW_FIELDS])
+    } else {
+        link_place_in(plan, order, body, k, &mut [0; FIELD_LIMIT])
+    }
+}
+
+/// The same, with room for where each varied field ends.
+fn link_place_in(plan: &Plan, order: Order, body: &[u8], k: u64, ends: &mut [usize]) -> LinkPlace
+    requires link { HasLink order plan.now body.now k }
+    requires room { (mark_of plan.now (length plan.now)).varied ≤ length ends.old }
+    ensures placed { IsLinkPlaced order plan.now body.now k result }
+    ensures replaced { IsReplaceable order plan.now body.now k result.at }
+{
+    walk_body(plan, plan.fields().len(), order, body, ends);
+    let mut left = k;
+    for field in plan.links() {
+        let here = place_by(plan, *field as usize, ends);
+        let count = (here.length / LINK_SIZE) as u64;
+        if left < count {
+            return LinkPlace {
+                field: *field,
+                at: here.start + left as usize * LINK_SIZE,
+            };
+        }
+        left -= count;
+    }
+    unreachable!()
+}
+
+/// How many links a body has, by the ends of its varied fields.
+pub fn count_links(plan: &Plan, order: Order, body: &[u8], ends: &[usize]) -> u64
+    requires body { HasBody order plan.now body.now }
+    requires places { ArePlaces order plan.now body.now (length plan.now) ends.now }
+    ensures { HasLinks order plan.now body.now result }
+{
+    let mut count = 0;
+    for field in plan.links() {
+        count += place_by(plan, *field as usize, ends).length / LINK_SIZE;
+    }
+    count as u64
+}
+
+/// Whether it is a link or a list of them.
 pub fn is_link(field: &Field) -> bool
     ensures { result ≡ is_link field.now }
 {

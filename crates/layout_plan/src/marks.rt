@@ -4,7 +4,7 @@ ghost use Rattle.std.specs.Prelude.{◌≡◌, ◌+◌, ◌<◌, ◌^◌, Some};
 ghost use Rattle.std.specs.Option.{option_map_or};
 ghost use Rattle.layout_plan.specs.Marks.{fixed_width, past};
 
-use crate::spelled::LINK_SIZE;
+use crate::links::LINK_SIZE;
 use crate::{Field, Form};
 
 /// A field's place, by the ends of the varied fields before it.

@@ -5,6 +5,7 @@ ghost use Rattle.layout_plan.specs.Reading.{fault_of};
 ghost use Rattle.layout_plan.specs.Marks.{mark_of};
 ghost use Rattle.layout_plan.specs.Walking.{TellsBody};
 
+use crate::links::count_links;
 use crate::walking::{FEW_FIELDS, FIELD_LIMIT, fault, walk};
 use crate::{BodyFault, BodyReason, Measured, Plan};
 use scalar_types::Order;
@@ -47,9 +48,9 @@ fn measure_in(
     }
     Ok(Measured {
         zero_texts: walked.zero_texts,
-        links: plan.links().len() as u64,
+        links: count_links(plan, order, body, ends),
     })
 }
 
 /// The bytes that a producer may write after the listed fields.
-const TAIL_SIZE: usize = 4;
+pub const TAIL_SIZE: usize = 4;

@@ -1,9 +1,9 @@
 //! The plan of an entry: its layout, compiled once.
 ghost use Rattle.std.specs.Prelude.{◌≡◌, ◌≤◌, ◌++◌, List, [], ◌∷◌, length, if◌then◌else◌, IfOk, OnOk};
-ghost use Rattle.layout_plan.specs.Layout.{layout_of, form_of, is_counter, count_of, counts_of, field_of, IsLayout};
+ghost use Rattle.layout_plan.specs.Layout.{layout_of, form_of, counted_by, named_count, is_check_sum, count_of, counts_of, field_of, IsLayout};
 ghost use Rattle.layout_plan.specs.Links.{is_link};
 ghost use Rattle.layout_plan.specs.Marks.{is_varied, numbers_where, mark_of};
-ghost use Rattle.layout_plan.specs.Names.{counter_at, HoldsNames};
+ghost use Rattle.layout_plan.specs.Names.{count_at, HoldsNames};
 ghost use Rattle.dictionary.specs.declared.entries.Element.{Element};
 
 use crate::links::is_link;
@@ -16,8 +16,11 @@ use std::alloc::{AllocError, Global};
 use std::marker::Model;
 use type_text::{Base, Dim, ElementType, ItemList, Name};
 
-/// The number of the first field of each name, where a dimension may name it.
-type Names = IndexMap<Vec<u8>, Option<u32>>;
+/// The count by the first field of each name, where a dimension may name it.
+type Names = IndexMap<Vec<u8>, Option<Count>>;
+
+/// The name of the element that holds the check sum of a structure.
+const CHECK_SUM: &[u8] = b"chkSum";
 
 /// A readable layout with at most 4,096 fields. Contracts see it as the list of its fields.
 #[derive(Drop)]
@@ -54,7 +57,8 @@ impl Plan {
 
     /// The numbers of the varied fields, in order.
     pub(crate) fn varied(&self) -> &[u32]
-        ensures { result.now ≡ numbers_where is_varied 0 self.now }
+        ensures numbers { result.now ≡ numbers_where is_varied 0 self.now }
+        ensures layout { IsLayout self.now }
     {
         self.varied.as_slice()
     }
@@ -78,16 +82,18 @@ impl Plan {
 
 /// The plan of an entry with at most 4,096 elements. None exactly where its layout is not readable.
 ///
-/// A layout is readable where each element has a type, and each named dimension is the name of an earlier element whose type is
-/// `INT_1U`, `INT_2U`, `INT_4U` or `INT_8U` without dimension. A name means the first element of that name.
+/// A layout is readable where each element has a type, and each named dimension is the name of an earlier element that is a whole
+/// number without dimension. A name means the first element of that name.
 pub fn compile(alloc: Global, entry: &Entry) -> Result<Option<Plan>, AllocError>
     requires { length entry.now.elements ≤ 4096 }
     ensures { IfOk result (λ plan. plan ≡ layout_of entry.now.elements) }
 {
     let mut names = Names::new(alloc);
     let mut fields = ItemList::new(alloc);
-    for (i, element) in entry.elements.as_slice().iter().enumerate() {
-        let Some(field) = field_of(alloc, &names, element)? else {
+    let elements = entry.elements.as_slice();
+    for (i, element) in elements.iter().enumerate() {
+        let last = i + 1 == elements.len();
+        let Some(field) = field_of(alloc, &names, last, element)? else {
             return Ok(None);
         };
         fields.push(field)?;
@@ -139,31 +145,44 @@ fn note_name(alloc: Global, names: &mut Names, i: u32, element: &Element) -> Res
     if names.get(element.name.bytes()).is_some() {
         return Ok(());
     }
-    let counter = is_counter(element).then_some(i);
     let name = Vec::from_slice(alloc, element.name.bytes())?;
-    names.insert(name, counter)?;
+    names.insert(name, named_count(i, element))?;
     Ok(())
 }
 
-/// Whether a later dimension may name the element.
-fn is_counter(element: &Element) -> bool
-    ensures { result ≡ is_counter element.now }
+/// The count of a later dimension that names element i, where one may.
+fn named_count(i: u32, element: &Element) -> Option<Count>
+    ensures { result ≡ named_count (i, element.now) }
 {
-    let Some(ty) = &element.ty else {
-        return false;
-    };
+    let ty = element.ty.as_ref()?;
     if !ty.dims.is_empty() {
-        return false;
+        return None;
     }
-    matches!(
-        ty.base,
-        Base::Int1U | Base::Int2U | Base::Int4U | Base::Int8U
-    )
+    counted_by(i, &ty.base)
 }
 
-/// The field of an element, or None where it makes the layout unreadable.
-fn field_of(alloc: Global, names: &Names, element: &Element) -> Result<Option<Field>, AllocError>
-    ensures { IfOk result (λ field. field ≡ field_of (counter_at names.now) element.now) }
+/// The count by field k, where its base is a whole number.
+fn counted_by(k: u32, base: &Base) -> Option<Count>
+    ensures { result ≡ counted_by k base.now }
+{
+    match base {
+        Base::Int1U | Base::Int2U | Base::Int4U | Base::Int8U => Some(Count::Of(k)),
+        Base::Int1S => Some(Count::OfSigned(k, Width::One)),
+        Base::Int2S => Some(Count::OfSigned(k, Width::Two)),
+        Base::Int4S => Some(Count::OfSigned(k, Width::Four)),
+        Base::Int8S => Some(Count::OfSigned(k, Width::Eight)),
+        _ => None,
+    }
+}
+
+/// The field of an element, the last one or another. None where it makes the layout unreadable.
+fn field_of(
+    alloc: Global,
+    names: &Names,
+    last: bool,
+    element: &Element,
+) -> Result<Option<Field>, AllocError>
+    ensures { IfOk result (λ field. field ≡ field_of (count_at names.now) last element.now) }
 {
     let Some(ty) = &element.ty else {
         return Ok(None);
@@ -174,12 +193,23 @@ fn field_of(alloc: Global, names: &Names, element: &Element) -> Result<Option<Fi
     Ok(Some(Field {
         form: form_of(&ty.base),
         counts,
+        is_sum: last && is_check_sum(element),
     }))
+}
+
+/// Whether it is an element `chkSum INT_4U`.
+fn is_check_sum(element: &Element) -> bool
+    ensures { result ≡ is_check_sum element.now }
+{
+    let Some(ty) = &element.ty else {
+        return false;
+    };
+    element.name.bytes() == CHECK_SUM && matches!(ty.base, Base::Int4U) && ty.dims.is_empty()
 }
 
 /// The counts of dimensions, or None where a name counts by no field.
 fn counts_of(alloc: Global, names: &Names, dims: &[Dim]) -> Result<Option<CountList>, AllocError>
-    ensures { IfOk result (λ counts. counts ≡ counts_of (counter_at names.now) dims.now) }
+    ensures { IfOk result (λ counts. counts ≡ counts_of (count_at names.now) dims.now) }
 {
     let mut counts = CountList::new(alloc);
     for dim in dims {
@@ -193,17 +223,17 @@ fn counts_of(alloc: Global, names: &Names, dims: &[Dim]) -> Result<Option<CountL
 
 /// The count of a dimension, or None where its name counts by no field.
 fn count_of(names: &Names, dim: &Dim) -> Option<Count>
-    ensures { result ≡ count_of (counter_at names.now) dim.now }
+    ensures { result ≡ count_of (count_at names.now) dim.now }
 {
     match dim {
         Dim::Numeral(n) => Some(Count::Fixed(*n)),
-        Dim::Named(name) => counter_at(names, name).map(Count::Of),
+        Dim::Named(name) => count_at(names, name),
     }
 }
 
-/// The number of the field that a name counts by.
-fn counter_at(names: &Names, name: &Name) -> Option<u32>
-    ensures { result ≡ counter_at names.now name.now }
+/// The count of a dimension with this name.
+fn count_at(names: &Names, name: &Name) -> Option<Count>
+    ensures { result ≡ count_at names.now name.now }
 {
     names.get(name.bytes()).copied().flatten()
 }

@@ -1,11 +1,12 @@
 //! How far a varied field of a body reaches, and what `measure` counts of it. No memory is taken, whatever count a list claims.
 ghost use Rattle.std.specs.Prelude.{◌≡◌, ℕ, ◌≤◌, ◌<◌, ◌+◌, ◌*◌, true, List, min, length};
 ghost use Rattle.scalar_types.specs.Number.{size_of};
-ghost use Rattle.layout_plan.specs.Body.{extent_of, item_count};
+ghost use Rattle.layout_plan.specs.Body.{extent_of, item_count, signed_count};
 ghost use Rattle.layout_plan.specs.Marks.{is_varied};
 ghost use Rattle.layout_plan.specs.Reading.{single_in, listed_in, field_in, text_in};
 ghost use Rattle.layout_plan.specs.Spelled.{Tells, TellsText, TellsLength, zero_texts_of};
 
+use crate::links::LINK_SIZE;
 use crate::{BodyReason, Count, Field, Form};
 use scalar_types::{Order, Width, read_num};
 
@@ -61,7 +62,18 @@ fn extent(count: Count, numbers: &[u64]) -> u64
     match count {
         Count::Fixed(n) => u64::from(n),
         Count::Of(k) => numbers.get(k as usize).copied().unwrap_or(0),
+        Count::OfSigned(k, width) => {
+            signed_count(width, numbers.get(k as usize).copied().unwrap_or(0))
+        }
     }
+}
+
+/// The items that a signed number of this width counts, by its bits: none where it is below zero.
+pub fn signed_count(width: Width, n: u64) -> u64
+    ensures { result ≡ signed_count width n }
+{
+    let sign = 1 << (8 * width.size() - 1);
+    if n < sign { n } else { 0 }
 }
 
 /// The value of a field with dimensions, which has so many items.
@@ -72,12 +84,9 @@ fn listed_at(order: Order, form: Form, count: usize, bytes: &[u8]) -> Result<Spe
         Form::Number(width) => plain_at(count.saturating_mul(width.size()), bytes),
         Form::Pair(width) => plain_at(count.saturating_mul(2 * width.size()), bytes),
         Form::Text => texts_at(order, count, bytes),
-        Form::Link => plain_at(LINK_SIZE, bytes),
+        Form::Link => plain_at(count.saturating_mul(LINK_SIZE), bytes),
     }
 }
-
-/// The bytes of a link: its class and its instance.
-pub const LINK_SIZE: usize = 6;
 
 /// So many bytes.
 fn plain_at(length: usize, bytes: &[u8]) -> Result<Spelled, BodyReason>

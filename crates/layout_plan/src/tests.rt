@@ -32,7 +32,7 @@ fn element(alloc: Global, name: &str, text: &str) -> Result<Element, AllocError>
 }
 
 /// The plan of a structure of these elements.
-fn plan(alloc: Global, elements: &[(&str, &str)]) -> Result<Option<Plan>, AllocError> {
+pub fn plan(alloc: Global, elements: &[(&str, &str)]) -> Result<Option<Plan>, AllocError> {
     let entry = entry(alloc, 3, elements)?;
     if entry.elements.len() > 4096 {
         return Ok(None);
@@ -73,12 +73,13 @@ fn layouts_read_or_do_not(rt: HostRuntime) -> Result<(), Fail> {
             ("p", "PTR_STRUCT(FrVect *)"),
             true,
         ),
-        (("n", "INT_4S"), ("v", "CHAR[n]"), ("w", "CHAR"), false),
+        (("n", "INT_4S"), ("v", "CHAR[n]"), ("w", "CHAR"), true),
+        (("n", "CHAR"), ("v", "CHAR[n]"), ("w", "CHAR"), false),
         (("n", "REAL_4"), ("v", "CHAR[n]"), ("w", "CHAR"), false),
         (("n", "INT_4U[1]"), ("v", "CHAR[n]"), ("w", "CHAR"), false),
         (("v", "CHAR[n]"), ("n", "INT_4U"), ("w", "CHAR"), false),
         (("v", "CHAR"), ("n", "INT_4U[n]"), ("w", "CHAR"), false),
-        (("n", "INT_4S"), ("n", "INT_4U"), ("w", "CHAR[n]"), false),
+        (("n", "STRING"), ("n", "INT_4U"), ("w", "CHAR[n]"), false),
         (("v", "CHAR"), ("w", "CHAR"), ("n", "INT_3U"), false),
     ] {
         let plan = plan(rt.alloc(), &[first, second, third])?;
@@ -209,6 +210,45 @@ fn counts_stand_in_the_same_body(rt: HostRuntime) -> Result<(), Fail> {
     Ok(())
 }
 
+#[test]
+fn counts_below_zero_are_none(rt: HostRuntime) -> Result<(), Fail> {
+    for (count, order, body, want) in [
+        ("INT_1S", Order::Big, [0xff].as_slice(), ok(0, 0)),
+        (
+            "INT_1S",
+            Order::Big,
+            [0x7f].as_slice(),
+            fault(1, BodyReason::BodyShort),
+        ),
+        ("INT_2S", Order::Little, [0, 0x80].as_slice(), ok(0, 0)),
+        (
+            "INT_2S",
+            Order::Big,
+            [0, 1, 0, 7, 0, 0, 0, 0].as_slice(),
+            ok(0, 1),
+        ),
+        ("INT_4S", Order::Little, [0xff; 4].as_slice(), ok(0, 0)),
+        ("INT_8S", Order::Big, [0xff; 8].as_slice(), ok(0, 0)),
+        (
+            "INT_2S",
+            Order::Little,
+            [2, 0, 7, 0, 0, 0, 0, 0, 0, 0, 5, 0, 0, 0].as_slice(),
+            ok(0, 2),
+        ),
+        (
+            "INT_2S",
+            Order::Little,
+            [2, 0, 7, 0, 0, 0, 0, 0].as_slice(),
+            fault(1, BodyReason::BodyShort),
+        ),
+    ] {
+        let elements = [("n", count), ("v", "PTR_STRUCT(X *)[n]")];
+        let found = measured(rt.alloc(), &elements, order, body)?;
+        assert_eq!(rt; found, Some(want), "{count} {body:?}");
+    }
+    Ok(())
+}
+
 /// The number in a field, or None where the body does not read or the field is no single number.
 fn number(plan: &Plan, order: Order, body: &[u8], field: u32) -> Option<u64> {
     let each = read_field(plan, order, body, field)?;
@@ -288,6 +328,98 @@ fn fields_are_read_from_lent_bytes(rt: HostRuntime) -> Result<(), Fail> {
     assert_eq!(rt; span(&plan, order, bare, 2), Some((1, 3)));
     assert_eq!(rt; text(&plan, order, bare, 2), Some(b"".as_slice()));
     assert_eq!(rt; number(&plan, order, bare, 3), Some(7));
+    Ok(())
+}
+
+/// The field of the link of this number, or None where there is none.
+fn field_of_link(plan: &Plan, order: Order, body: &[u8], k: u64) -> Option<u32> {
+    let Ok(measured) = measure(plan, order, body) else {
+        return None;
+    };
+    if k >= measured.links {
+        return None;
+    }
+    Some(link_field(plan, order, body, k))
+}
+
+/// All links, or none where the body does not read.
+fn links(
+    alloc: Global,
+    plan: &Plan,
+    order: Order,
+    body: &[u8],
+) -> Result<Vec<FieldLink>, AllocError> {
+    let mut links = Vec::new(alloc);
+    if measure(plan, order, body).is_ok() {
+        push_links(plan, order, body, &mut links)?;
+    }
+    Ok(links)
+}
+
+/// A field's number, and the class and instance of a link in it.
+type Told = (u32, u16, u32);
+
+#[test]
+fn links_of_lists_are_read_in_turn(rt: HostRuntime) -> Result<(), Fail> {
+    let alloc = rt.alloc();
+    let before = [
+        ("n", "INT_1S"),
+        ("v", "PTR_STRUCT(X *)[n]"),
+        ("t", "STRING[2]"),
+        ("w", "PTR_STRUCT(X *)"),
+    ];
+    let after = [
+        ("n", "INT_1S"),
+        ("w", "PTR_STRUCT(X *)"),
+        ("t", "STRING[2]"),
+        ("v", "PTR_STRUCT(X *)[n]"),
+    ];
+    let one = [0xff, 0, 0, 2, 0, 0x41, 0, 9, 0, 1, 0, 0, 0].as_slice();
+    let many = [
+        3, 1, 0, 2, 0, 0, 0, 3, 0, 4, 0, 0, 0, 0, 0, 6, 0, 0, 0, 0, 0, 2, 0, 0x41, 0, 9, 0, 1, 0,
+        0, 0,
+    ]
+    .as_slice();
+    let behind = [
+        3, 9, 0, 1, 0, 0, 0, 2, 0, 0x41, 0, 0, 0, 1, 0, 2, 0, 0, 0, 3, 0, 4, 0, 0, 0, 0, 0, 6, 0,
+        0, 0,
+    ]
+    .as_slice();
+    let none = [0, 9, 0, 1, 0, 0, 0, 0, 0, 0, 0].as_slice();
+    let told: [(_, _, &[Told]); 4] = [
+        (before, one, &[(3, 9, 1)]),
+        (before, many, &[(1, 1, 2), (1, 3, 4), (1, 0, 6), (3, 9, 1)]),
+        (after, behind, &[(1, 9, 1), (3, 1, 2), (3, 3, 4), (3, 0, 6)]),
+        (after, none, &[(1, 9, 1)]),
+    ];
+    for (elements, body, want) in told {
+        let Some(plan) = plan(alloc, &elements)? else {
+            return Err("the layout does not read".into());
+        };
+        let found = links(alloc, &plan, Order::Little, body)?;
+        assert_eq!(rt; found.len(), want.len(), "{body:?}");
+        for (k, each) in found.as_slice().iter().enumerate() {
+            let k = k as u64;
+            assert_eq!(rt; link(&plan, Order::Little, body, k), Some(each.link));
+            assert_eq!(rt;
+                field_of_link(&plan, Order::Little, body, k),
+                Some(each.field)
+            );
+        }
+        for (each, (field, class, instance)) in found.as_slice().iter().zip(want) {
+            let link = Link {
+                class: *class,
+                instance: *instance,
+            };
+            assert_eq!(rt;
+                *each,
+                FieldLink {
+                    field: *field,
+                    link
+                }
+            );
+        }
+    }
     Ok(())
 }
 

@@ -1,5 +1,5 @@
 //! A walk over the varied fields of a body. The fields of fixed width between them are passed over by the plan's marks.
-ghost use Rattle.std.specs.Prelude.{◌≡◌, ◌+◌, ◌*◌, ◌≤◌, ◌<◌, ◌^◌, ℕ, true, List, min, length, slice_get, Some};
+ghost use Rattle.std.specs.Prelude.{◌≡◌, ◌+◌, ◌*◌, ◌≤◌, ◌<◌, ◌^◌, ℕ, true, List, min, length, slice_get, slice_index, Some};
 ghost use Rattle.scalar_types.specs.declared.Order.{Order};
 ghost use Rattle.layout_plan.specs.declared.fields.Field.{Field};
 ghost use Rattle.layout_plan.specs.Layout.{IsEarlier};
@@ -8,7 +8,7 @@ ghost use Rattle.layout_plan.specs.Marks.{mark_of, end_of, place_of, fixed_width
 ghost use Rattle.layout_plan.specs.Walking.{number_at, ArePlaces, AreNumbers, IsWalked, HasWalked, TellsReached, TellsStart};
 
 use crate::marks::Mark;
-use crate::spelled::{capped_product, varied_at};
+use crate::spelled::{capped_product, signed_count, varied_at};
 use crate::{BodyFault, BodyReason, Count, Field, Form, Plan};
 use scalar_types::{Order, read_num};
 
@@ -108,11 +108,20 @@ fn extent_at(plan: &Plan, k: usize, order: Order, body: &[u8], ends: &[usize], e
 {
     match each {
         Count::Fixed(n) => u64::from(n),
-        Count::Of(i) => {
-            let start = place(plan.mark(i as usize), ends);
-            number_at(order, &plan.fields()[i as usize], &body[start..])
+        Count::Of(i) => counter_at(plan, i as usize, order, body, ends),
+        Count::OfSigned(i, width) => {
+            signed_count(width, counter_at(plan, i as usize, order, body, ends))
         }
     }
+}
+
+/// The number that field i is, before field k, or 0 where it is none.
+fn counter_at(plan: &Plan, i: usize, order: Order, body: &[u8], ends: &[usize]) -> u64
+    requires { (k : ℕ) × ArePlaces order plan.now body.now k ends.now × (i < k) × (k ≤ length plan.now) }
+    ensures { (k : ℕ) (numbers : List ℕ) → i < k → ArePlaces order plan.now body.now k ends.now → AreNumbers order plan.now body.now k numbers → result ≡ slice_index numbers i }
+{
+    let start = place(plan.mark(i), ends);
+    number_at(order, &plan.fields()[i], &body[start..])
 }
 
 /// The number that a field at the front of the bytes is, or 0 where it is none.

@@ -1,0 +1,84 @@
+//! A body written again in the canonical form, without its values: in little-endian order, with other links, each text closed by its
+//! zero byte, the check sum cleared and no tail.
+ghost use Rattle.std.specs.Prelude.{◌≡◌, ◌≤◌, length, OnOk, OnErr};
+ghost use Rattle.layout_plan.specs.Appends.{Appends};
+ghost use Rattle.layout_plan.specs.Body.{HasBody};
+ghost use Rattle.layout_plan.specs.Links.{HasLinks};
+ghost use Rattle.layout_plan.specs.Marks.{mark_of};
+ghost use Rattle.layout_plan.specs.Written.{IsRewritten};
+
+use crate::Plan;
+use crate::lent::{place_by, walk_body};
+use crate::respelled::push_field;
+use crate::walking::{FEW_FIELDS, FIELD_LIMIT};
+use scalar_types::Order;
+use std::alloc::AllocError;
+use type_text::Link;
+
+/// Appends the values of a body that spells the layout in little-endian order, and makes no value of them: the k-th link replaced by
+/// the k-th of `links`, a last field `chkSum INT_4U` as 0, and each text, the empty one too, closed by its zero byte. No tail is
+/// appended. Where memory is out, `into` is as it was.
+pub fn rewrite(
+    plan: &Plan,
+    order: Order,
+    body: &[u8],
+    links: &[Link],
+    into: &mut Vec<u8>,
+) -> Result<(), AllocError>
+    requires read { HasBody order plan.now body.now }
+    requires links { HasLinks order plan.now body.now (length links.now) }
+    ensures ok { OnOk result (Appends (IsRewritten order plan.now body.now links.now) into.old.items into.new.items) }
+    ensures err { OnErr result (into.new.items ≡ into.old.items) }
+{
+    let start = into.len();
+    if push_body(plan, order, body, links, into).is_err() {
+        into.truncate(start);
+        return Err(AllocError);
+    }
+    Ok(())
+}
+
+/// The same, but that a part of it may stand there where memory is out.
+fn push_body(
+    plan: &Plan,
+    order: Order,
+    body: &[u8],
+    links: &[Link],
+    into: &mut Vec<u8>,
+) -> Result<(), AllocError>
+    requires read { HasBody order plan.now body.now }
+    requires links { HasLinks order plan.now body.now (length links.now) }
+    ensures { Appends (λ bytes. OnOk result (IsRewritten order plan.now body.now links.now bytes)) into.old.items into.new.items }
+{
+    into.reserve(body.len())?;
+    if plan.varied().len() <= FEW_FIELDS {
+        push_fields(plan, order, body, links, into, &mut [0; FEW_FIELDS])
+    } else {
+        push_fields(plan, order, body, links, into, &mut [0; FIELD_LIMIT])
+    }
+}
+
+/// The same, with room for where each varied field ends.
+fn push_fields(
+    plan: &Plan,
+    order: Order,
+    body: &[u8],
+    links: &[Link],
+    into: &mut Vec<u8>,
+    ends: &mut [usize],
+) -> Result<(), AllocError>
+    requires read { HasBody order plan.now body.now }
+    requires links { HasLinks order plan.now body.now (length links.now) }
+    requires room { (mark_of plan.now (length plan.now)).varied ≤ length ends.old }
+    ensures { Appends (λ bytes. OnOk result (IsRewritten order plan.now body.now links.now bytes)) into.old.items into.new.items }
+{
+    let fields = plan.fields();
+    walk_body(plan, fields.len(), order, body, ends);
+    let mut next = 0;
+    for (k, field) in fields.iter().enumerate() {
+        let here = place_by(plan, k, ends);
+        let bytes = &body[here.start..here.start + here.length];
+        next += push_field(order, field, bytes, &links[next..], into)?;
+    }
+    Ok(())
+}
