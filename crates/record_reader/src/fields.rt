@@ -5,7 +5,7 @@ ghost use Rattle.layout_plan.specs.Reading.{single_in, listed_in, field_in};
 ghost use Rattle.record_reader.specs.Takes.{TakesOrStops};
 
 use crate::cursor::{Cursor, Stop};
-use crate::lists::{bytes, numbers, pairs, texts};
+use crate::lists::{bytes, links, numbers, pairs, texts};
 use layout_plan::{Field, Form, capped_count};
 use record_values::Value;
 use scalar_types::{Order, Width};
@@ -59,6 +59,6 @@ fn listed(
         Form::Number(width) => Value::Nums(numbers(alloc, order, width, count, cursor)?),
         Form::Pair(width) => Value::Pairs(pairs(alloc, order, width, count, cursor)?),
         Form::Text => Value::Texts(texts(alloc, order, count, cursor)?),
-        Form::Link => Value::Link(cursor.link(order)?),
+        Form::Link => Value::Links(links(alloc, order, count, cursor)?),
     })
 }

@@ -1,12 +1,12 @@
 //! Lists of items, taken from the front of what is left. A list asks for memory by the items that are there, whatever count is
 //! claimed.
 
-ghost use Rattle.layout_plan.specs.Reading.{number_in, pair_in, text_in, items_in};
+ghost use Rattle.layout_plan.specs.Reading.{number_in, pair_in, text_in, link_in, items_in};
 ghost use Rattle.scalar_types.specs.declared.Width.TheVariants.{One};
 ghost use Rattle.record_reader.specs.Takes.{TakesOrStops};
 
 use crate::cursor::{Cursor, Stop};
-use record_values::{NumList, PairList, TextList};
+use record_values::{LinkList, NumList, PairList, TextList};
 use scalar_types::{Order, Width};
 use std::alloc::Global;
 use type_text::Name;
@@ -57,6 +57,22 @@ pub fn texts(
     let mut list = TextList::new(alloc);
     for _i in 0..count {
         list.push(cursor.text(alloc, order)?)?;
+    }
+    Ok(list)
+}
+
+/// So many links.
+pub fn links(
+    alloc: Global,
+    order: Order,
+    count: usize,
+    cursor: &mut Cursor,
+) -> Result<LinkList, Stop>
+    ensures { TakesOrStops (items_in (link_in order) count cursor.old) result cursor.new }
+{
+    let mut list = LinkList::new(alloc);
+    for _i in 0..count {
+        list.push(cursor.link(order)?)?;
     }
     Ok(list)
 }

@@ -5,7 +5,7 @@ ghost use Rattle.record_reader.specs.ReadBody.{Reads, stop_of};
 
 use crate::cursor::{Cursor, Stop};
 use crate::fields::field_value;
-use layout_plan::{BodyFault, BodyReason, Plan};
+use layout_plan::{BodyFault, BodyReason, Plan, TAIL_SIZE};
 use record_values::{NumList, ValueList};
 use scalar_types::Order;
 use std::alloc::{AllocError, Global};
@@ -15,9 +15,9 @@ use thiserror::Error;
 #[derive(Clone, Copy, Debug, PartialEq, Eq, Error)]
 pub enum BodyError {
     /// It spells no values of the layout.
-    #[error("{0}")]
+    #[error("Fault")]
     Fault(BodyFault),
-    #[error("no memory")]
+    #[error("NoMemory")]
     NoMemory,
 }
 
@@ -62,9 +62,6 @@ pub fn read_body(
     }
     Ok(values)
 }
-
-/// The bytes that a producer may write after the listed fields.
-const TAIL_SIZE: usize = 4;
 
 /// The error of a stop at a field.
 fn stop_at(field: usize, stop: Stop) -> BodyError

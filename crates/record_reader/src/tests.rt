@@ -2,7 +2,7 @@
 use super::*;
 use dictionary::{Element, ElementList, Entry};
 use layout_plan::{BodyFault, BodyReason, Plan, compile};
-use record_values::{NumList, PairList, TextList, Value, ValueList, same_values};
+use record_values::{LinkList, NumList, PairList, TextList, Value, ValueList, same_values};
 use scalar_types::Order;
 use std::alloc::{AllocError, Global};
 use std::test::Fail;
@@ -123,6 +123,23 @@ fn counted(alloc: Global, a: u64, b: u64, items: &[u64]) -> Result<ValueList, Al
     Ok(values)
 }
 
+const LINKS: [(&str, &str); 2] = [("n", "INT_2S"), ("v", "PTR_STRUCT(FrVect *)[n]")];
+
+/// A number and a list of links, for the layout `LINKS`.
+fn linked(alloc: Global, n: u64, items: &[(u16, u32)]) -> Result<ValueList, AllocError> {
+    let mut links = LinkList::new(alloc);
+    for (class, instance) in items {
+        links.push(Link {
+            class: *class,
+            instance: *instance,
+        })?;
+    }
+    let mut values = ValueList::new(alloc);
+    values.push(Value::Num(n))?;
+    values.push(Value::Links(links))?;
+    Ok(values)
+}
+
 /// Whether the body is read as these values.
 fn reads(
     alloc: Global,
@@ -182,9 +199,35 @@ fn counts_of_the_same_body(rt: HostRuntime) -> Result<(), Fail> {
 }
 
 /// The fault of a body, or None where it is read.
-fn fault(alloc: Global, types: &[(&str, &str)], body: &[u8]) -> Result<Option<BodyError>, Fail> {
+fn fault(
+    alloc: Global,
+    types: &[(&str, &str)],
+    order: Order,
+    body: &[u8],
+) -> Result<Option<BodyError>, Fail> {
     let plan = plan(alloc, types)?.ok_or("not readable")?;
-    Ok(read_body(alloc, &plan, Order::Little, body).err())
+    Ok(read_body(alloc, &plan, order, body).err())
+}
+
+#[test]
+fn lists_of_links_in_both_orders(rt: HostRuntime) -> Result<(), Fail> {
+    let alloc = rt.alloc();
+    for (order, body) in [
+        (Order::Little, [2, 0, 7, 0, 0, 0, 0, 0, 0, 0, 5, 0, 0, 0]),
+        (Order::Big, [0, 2, 0, 7, 0, 0, 0, 0, 0, 0, 0, 0, 0, 5]),
+    ] {
+        let want = linked(alloc, 2, &[(7, 0), (0, 5)])?;
+        assert!(rt; reads(alloc, &LINKS, order, &body, &want)?);
+        // A number below zero counts no items.
+        let none = linked(alloc, 65_535, &[])?;
+        assert!(rt; reads(alloc, &LINKS, order, &[255, 255], &none)?);
+        let short = BodyError::Fault(BodyFault {
+            field: 1,
+            reason: BodyReason::BodyShort,
+        });
+        assert_eq!(rt; fault(alloc, &LINKS, order, &body[..8])?, Some(short));
+    }
+    Ok(())
 }
 
 #[test]
@@ -209,7 +252,7 @@ fn faults_at_their_fields(rt: HostRuntime) -> Result<(), Fail> {
         ),
         ("CHAR[3]", [1, 2].as_slice(), 0, BodyReason::BodyShort),
     ] {
-        let answer = fault(alloc, &[("a", ty)], body)?;
+        let answer = fault(alloc, &[("a", ty)], Order::Little, body)?;
         let want = BodyError::Fault(BodyFault { field, reason });
         assert_eq!(rt; answer, Some(want), "{ty} {body:?}");
     }
@@ -220,6 +263,6 @@ fn faults_at_their_fields(rt: HostRuntime) -> Result<(), Fail> {
         field: 2,
         reason: BodyReason::BodyShort,
     });
-    assert_eq!(rt; fault(alloc, &COUNTS, &body)?, Some(want));
+    assert_eq!(rt; fault(alloc, &COUNTS, Order::Little, &body)?, Some(want));
     Ok(())
 }

@@ -1,13 +1,12 @@
 -- The values of a body fit its fields: so what was read may be written.
-use Rattle.std.proofs.Common.{◌≡◌, ℕ, ◌+◌, ◌*◌, ◌^◌, ◌<◌, ◌≤◌, List, [], ◌∷◌, ◌++◌, length, map, All, subst, arith, inl, inr}
+use Rattle.std.proofs.Common.{◌≡◌, ℕ, ◌+◌, ◌^◌, ◌<◌, List, [], ◌∷◌, ◌++◌, length, map, All, subst, arith, inl, inr}
 use Rattle.std.specs.List.{AllZip}
 use Rattle.std.proofs.lemmas.List.Elements.{All-nil, All-cons, All-head, All-tail}
-use Rattle.std.proofs.Math.Nat.{pow-suc, mul-le-mul_right}
 use Rattle.scalar_types.specs.declared.Order.{Order}
-use Rattle.scalar_types.specs.declared.Order.TheVariants.{Big, Little}
 use Rattle.scalar_types.specs.declared.Width.{Width}
 use Rattle.scalar_types.specs.declared.Width.TheVariants.{One, Two, Four, Eight}
-use Rattle.scalar_types.specs.Number.{number, big_number, little_number, size_of}
+use Rattle.scalar_types.specs.Number.{number, size_of}
+use Rattle.scalar_types.proofs.NumberBytes.{number-limit}
 use Rattle.record_values.specs.declared.values.Value.{Value}
 use Rattle.record_values.specs.declared.values.Value.TheVariants as value
 use Rattle.record_values.specs.Spelling.{IsNumber, IsPair, IsText, AreItems}
@@ -32,26 +31,9 @@ parts P (x ∷ xs) ys all =
 parts_of : (bytes front back : List ℕ) → bytes ≡ front ++ back → All IsByte bytes → All IsByte front × All IsByte back
 parts_of bytes front back split all = parts IsByte front back (subst (All IsByte) split all)
 
-big-below : (bytes : List ℕ) → All IsByte bytes → big_number bytes < 256 ^ length bytes
-big-below [] all = omega arith
-big-below (b ∷ bs) all =
-    let byte : b < 256 = All-head IsByte b bs all in
-    let top : b * 256 ^ length bs ≤ 255 * 256 ^ length bs = mul-le-mul_right (256 ^ length bs) (omega arith) in
-    omega (arith, big-below bs (All-tail IsByte b bs all), pow-suc 256 (length bs), top)
-
-little-below : (bytes : List ℕ) → All IsByte bytes → little_number bytes < 256 ^ length bytes
-little-below [] all = omega arith
-little-below (b ∷ bs) all =
-    let byte : b < 256 = All-head IsByte b bs all in
-    omega (arith, little-below bs (All-tail IsByte b bs all), pow-suc 256 (length bs))
-
-number-below : (order : Order) (bytes : List ℕ) → All IsByte bytes → number order bytes < 256 ^ length bytes
-number-below Big bytes all = big-below bytes all
-number-below Little bytes all = little-below bytes all
-
 number_fits : (order : Order) (width : Width) (n : ℕ) (bytes : List ℕ) → All IsByte bytes → IsNumber order width n bytes → FitsWidth width n
 number_fits order width n bytes all h =
-    subst (λ m. m < 256 ^ size_of width) h.value (subst (λ k. number order bytes < 256 ^ k) h.size (number-below order bytes all))
+    subst (λ m. m < 256 ^ size_of width) h.value (subst (λ k. number order bytes < 256 ^ k) h.size (number-limit order bytes all))
 
 pair_fits : (order : Order) (width : Width) (pair : ℕ × ℕ) (bytes : List ℕ) → All IsByte bytes → IsPair order width pair bytes → PairFitsWidth width pair
 pair_fits order width pair bytes all h =
@@ -93,7 +75,7 @@ listed_fits order (Pair width) n (value.Pairs xs) bytes all h =
     items_fit (IsPair order width) (PairFitsWidth width) (pair_fits order width) n xs bytes all h
 listed_fits order Text n (value.Texts xs) bytes all h =
     items_fit (IsText order) IsShortText (text_fits order) n xs bytes all h
-listed_fits order Link n (value.Link link) bytes all h = tt
+listed_fits order Link n (value.Links xs) bytes all h = h.count
 listed_fits order form n v bytes all h = absurd h
 
 field_fits : (order : Order) (numbers : List ℕ) (form : Form) (counts : List Count) (v : Value) (bytes : List ℕ) → All IsByte bytes → IsField order numbers form counts v bytes → FitsField numbers form counts v

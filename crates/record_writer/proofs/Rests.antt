@@ -1,11 +1,12 @@
 -- Two lists that are gone through side by side, by what is left of them.
 use Rattle.std.proofs.Common.{◌≡◌, ℕ, suc, ◌+◌, ◌⊎◌, ◌↔◌, List, [], ◌∷◌, ◌++◌, length, refl, sym, ap, ◌∙◌, inl, inr, append_assoc, append-nil}
-use Rattle.std.specs.List.{AllZip, zip}
+use Rattle.std.specs.List.{AllZip}
+use Rattle.scalar_types.specs.declared.Order.{Order}
 use Rattle.record_values.specs.declared.values.Value.{Value}
-use Rattle.record_values.specs.Spelling.{AreItems}
 use Rattle.layout_plan.specs.declared.fields.Field.{Field}
-use Rattle.layout_plan.specs.Body.{value_length, values_length}
-use Rattle.record_writer.specs.Closed.{Appends}
+use Rattle.layout_plan.specs.Appends.{Appends}
+use Rattle.layout_plan.specs.Body.{IsFieldBy, AreFieldsBy, value_length, values_length}
+use Rattle.layout_plan.proofs.AppendLemmas.{Appends-none, Appends-more, Appends-as}
 
 -- the first of what is left
 pub values_length-step : (fs : List Field) (vs : List Value) (f : Field) (v : Value) (fs' : List Field) (vs' : List Value) → (fs ≡ f ∷ fs') × (vs ≡ v ∷ vs') → values_length fs vs ≡ value_length f.form v + values_length fs' vs'
@@ -39,35 +40,34 @@ AllZip-end R (x ∷ xs) [] end same = cc
 AllZip-end R (x ∷ xs) (y ∷ ys) (inl e) same = cc
 AllZip-end R (x ∷ xs) (y ∷ ys) (inr e) same = cc
 
--- The bytes are those of the pairs before what is left of them.
-abbrev pub AreItemsBefore : {A B : Type 0} → (A × B → List ℕ → Type 0) → List (A × B) → List A → List B → List ℕ → Type 0
-AreItemsBefore R all xs ys bytes = (more : List ℕ) → AreItems R (zip xs ys) more → AreItems R all (bytes ++ more)
+-- The bytes spell the values before what is left of them.
+abbrev pub AreFieldsBefore : (List ℕ → List ℕ → Type 0) → Order → List ℕ → List Field → List Value → List Field → List Value → List ℕ → Type 0
+AreFieldsBefore R order numbers fields values fs vs bytes =
+    (more : List ℕ) → AreFieldsBy R order numbers fs vs more → AreFieldsBy R order numbers fields values (bytes ++ more)
 
 -- nothing is appended yet
-pub before_first : {A B : Type 0} (R : A × B → List ℕ → Type 0) (xs : List A) (ys : List B) (old : List ℕ) → Appends (AreItemsBefore R (zip xs ys) xs ys) old old
-before_first R xs ys old = record { bytes = []; whole = sym (append-nil old); related = λ more items. items }
+pub fields_none : (R : List ℕ → List ℕ → Type 0) (order : Order) (numbers : List ℕ) (fields : List Field) (values : List Value) (old : List ℕ) → Appends (AreFieldsBefore R order numbers fields values fields values) old old
+fields_none R order numbers fields values old =
+    Appends-none (AreFieldsBefore R order numbers fields values fields values) old (λ more spelled. spelled)
 
--- one more pair's item is appended
-pub before_more : {A B : Type 0} (R : A × B → List ℕ → Type 0) (all : List (A × B)) (xs : List A) (ys : List B) (x : A) (y : B) (xs' : List A) (ys' : List B) (old mid new : List ℕ) → (xs ≡ x ∷ xs') × (ys ≡ y ∷ ys') → Appends (AreItemsBefore R all xs ys) old mid → Appends (R (x, y)) mid new → Appends (AreItemsBefore R all xs' ys') old new
-before_more R all xs ys x y xs' ys' old mid new (e, e') before one = record {
-  bytes = before.bytes ++ one.bytes;
-  whole = one.whole ∙ ap (λ f. f ++ one.bytes) before.whole ∙ append_assoc old before.bytes one.bytes;
-  related = λ more items. rw append_assoc (before.related (one.bytes ++ more) (rw (e, e') (one.bytes, more, refl, one.related, items)));
-}
+-- one more value is appended
+pub fields_more : (R : List ℕ → List ℕ → Type 0) (order : Order) (numbers : List ℕ) (fields : List Field) (values : List Value) (fs : List Field) (vs : List Value) (f : Field) (v : Value) (fs' : List Field) (vs' : List Value) (old mid new : List ℕ) → (fs ≡ f ∷ fs') × (vs ≡ v ∷ vs') → Appends (AreFieldsBefore R order numbers fields values fs vs) old mid → Appends (IsFieldBy R order numbers f.form f.counts v) mid new → Appends (AreFieldsBefore R order numbers fields values fs' vs') old new
+fields_more R order numbers fields values fs vs f v fs' vs' old mid new (e, e') before one =
+    Appends-more (AreFieldsBefore R order numbers fields values fs vs) (IsFieldBy R order numbers f.form f.counts v) (AreFieldsBefore R order numbers fields values fs' vs') old mid new before one both
+  where
+    both : (xs ys : List ℕ) → AreFieldsBefore R order numbers fields values fs vs xs → IsFieldBy R order numbers f.form f.counts v ys → AreFieldsBefore R order numbers fields values fs' vs' (xs ++ ys)
+    both xs ys spelled here more others =
+        rw append_assoc (spelled (ys ++ more) (rw (e, e') (ys, more, refl, here, others)))
 
-zip-nil : {A B : Type 0} (xs : List A) (ys : List B) → ys ≡ [] → zip xs ys ≡ []
-zip-nil [] ys e = refl
-zip-nil (x ∷ xs) [] e = refl
-zip-nil (x ∷ xs) (y ∷ ys) e = cc
-
-zip-end : {A B : Type 0} (xs : List A) (ys : List B) → (xs ≡ []) ⊎ (ys ≡ []) → zip xs ys ≡ []
-zip-end xs ys (inl e) = rw e refl
-zip-end xs ys (inr e) = zip-nil xs ys e
+-- nothing is left to spell
+fields_nil : (P : Field → Value → Type 0) (R : List ℕ → List ℕ → Type 0) (order : Order) (numbers : List ℕ) (fs : List Field) (vs : List Value) → (fs ≡ []) ⊎ (vs ≡ []) → AllZip P fs vs → AreFieldsBy R order numbers fs vs []
+fields_nil P R order numbers [] [] end fit = refl
+fields_nil P R order numbers [] (v ∷ vs) end fit = absurd fit
+fields_nil P R order numbers (f ∷ fs) [] end fit = absurd fit
+fields_nil P R order numbers (f ∷ fs) (v ∷ vs) (inl e) fit = cc
+fields_nil P R order numbers (f ∷ fs) (v ∷ vs) (inr e) fit = cc
 
 -- all are appended
-pub before_end : {A B : Type 0} (R : A × B → List ℕ → Type 0) (all : List (A × B)) (xs : List A) (ys : List B) (old new : List ℕ) → (xs ≡ []) ⊎ (ys ≡ []) → Appends (AreItemsBefore R all xs ys) old new → Appends (AreItems R all) old new
-before_end R all xs ys old new end before = record {
-  bytes = before.bytes;
-  whole = before.whole;
-  related = rw append-nil at (before.related [] (rw (zip-end xs ys end) refl));
-}
+pub fields_all : (P : Field → Value → Type 0) (R : List ℕ → List ℕ → Type 0) (order : Order) (numbers : List ℕ) (fields : List Field) (values : List Value) (fs : List Field) (vs : List Value) (old new : List ℕ) → (fs ≡ []) ⊎ (vs ≡ []) → AllZip P fs vs → Appends (AreFieldsBefore R order numbers fields values fs vs) old new → Appends (AreFieldsBy R order numbers fields values) old new
+fields_all P R order numbers fields values fs vs old new end fit before =
+    Appends-as (AreFieldsBefore R order numbers fields values fs vs) (AreFieldsBy R order numbers fields values) old new before (λ bytes spelled. rw append-nil at (spelled [] (fields_nil P R order numbers fs vs end fit)))

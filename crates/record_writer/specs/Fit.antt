@@ -36,14 +36,14 @@ FitsSingle Text (value.Text text) = IsShortText text
 FitsSingle Link (value.Link link) = Unit {0}
 FitsSingle form v = ⊥
 
--- the value is a list of n items of this form. A list of one-byte numbers is Bytes, and each of its items has one byte by its type. A link has no dimensions, and is one link whatever n.
+-- the value is a list of n items of this form. A list of one-byte numbers is Bytes, and each of its items has one byte by its type; each link is its class and instance, by their types.
 abbrev pub FitsListed : Form → ℕ → Value → Type 0
 FitsListed (Number One) n (value.Bytes xs) = length xs ≡ n
 FitsListed (Number One) n v = ⊥
 FitsListed (Number width) n (value.Nums xs) = AllCounted (FitsWidth width) n xs
 FitsListed (Pair width) n (value.Pairs xs) = AllCounted (PairFitsWidth width) n xs
 FitsListed Text n (value.Texts xs) = AllCounted IsShortText n xs
-FitsListed Link n (value.Link link) = Unit {0}
+FitsListed Link n (value.Links xs) = length xs ≡ n
 FitsListed form n v = ⊥
 
 -- the value is one of a field of this form and these dimensions, by the numbers of the record's fields

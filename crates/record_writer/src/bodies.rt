@@ -1,8 +1,9 @@
 //! The two public calls.
 ghost use Rattle.std.specs.Prelude.{◌≡◌, ◌<◌, ◌^◌, ◌↔◌, IsSome, IfSome, OnOk, OnErr};
+ghost use Rattle.layout_plan.specs.Appends.{Appends};
 ghost use Rattle.layout_plan.specs.Body.{values_length};
+ghost use Rattle.layout_plan.specs.Written.{IsWritten};
 ghost use Rattle.record_writer.specs.Fit.{Fits};
-ghost use Rattle.record_writer.specs.Closed.{IsWritten, Appends};
 
 use crate::fitting::values_fit;
 use crate::lengths::fields_length;

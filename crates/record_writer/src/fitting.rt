@@ -1,72 +1,72 @@
 //! Whether values fit the fields of a layout.
-ghost use Rattle.std.specs.Prelude.{◌≡◌, ℕ, ◌-◌, ◌^◌, ◌↔◌, min, map, All, IsTrue, slice_index};
-ghost use Rattle.layout_plan.specs.Body.{number_of, extent_of, item_count as product_of};
+ghost use Rattle.std.specs.Prelude.{◌≡◌, ◌≤◌, ◌<◌, ◌-◌, ◌^◌, ◌↔◌, length, take, map, All, IsTrue};
+ghost use Rattle.layout_plan.specs.Body.{number_of, item_count};
 ghost use Rattle.record_writer.specs.Fit.{FitsWidth, PairFitsWidth, IsShortText, FitsSingle, FitsListed, FitsField, Fits};
 
-use layout_plan::{Count, Field, Form};
+use layout_plan::{Count, Field, Form, capped_count};
 use record_values::Value;
 use scalar_types::Width;
 use type_text::Name;
+
+/// The most fields that a layout has.
+const FIELD_LIMIT: usize = 4096;
+
+/// So many numbers of values, which all but a few layouts have, are put on a small part of the stack.
+const FEW_FIELDS: usize = 64;
 
 /// The most bytes of a text.
 const TEXT_LIMIT: usize = 65_534;
 
 /// Whether there is a value for each field, and each fits its field.
 pub fn values_fit(fields: &[Field], values: &[Value]) -> bool
+    requires { length fields.now ≤ 4096 }
     ensures { IsTrue result ↔ Fits fields.now values.now }
 {
     if fields.len() != values.len() {
         return false;
     }
+    if values.len() <= FEW_FIELDS {
+        each_fits(fields, values, &mut [0; FEW_FIELDS])
+    } else {
+        each_fits(fields, values, &mut [0; FIELD_LIMIT])
+    }
+}
+
+/// Whether each value fits its field, with room for the numbers that they are.
+fn each_fits(fields: &[Field], values: &[Value], numbers: &mut [u64]) -> bool
+    requires long { length fields.now ≡ length values.now }
+    requires room { length values.now ≤ length numbers.old }
+    ensures { IsTrue result ↔ Fits fields.now values.now }
+{
+    put_numbers(values, numbers);
+    let numbers = &numbers[..values.len()];
     for (field, value) in fields.iter().zip(values) {
-        if !field_fits(field, value, values) {
+        if !field_fits(field, value, numbers) {
             return false;
         }
     }
     true
 }
 
-/// Whether the value fits the field, where `values` are those of all fields.
-fn field_fits(field: &Field, value: &Value, values: &[Value]) -> bool
-    ensures { IsTrue result
-        ↔ FitsField (map number_of values.now) field.now.form field.now.counts value.now }
+/// Puts the number that each value is at the front of the numbers.
+fn put_numbers(values: &[Value], numbers: &mut [u64])
+    requires { length values.now ≤ length numbers.old }
+    ensures { take (length values.now) numbers.new ≡ map number_of values.now }
+{
+    for (i, value) in values.iter().enumerate() {
+        numbers[i] = value.number();
+    }
+}
+
+/// Whether the value fits the field, by the numbers of all fields.
+fn field_fits(field: &Field, value: &Value, numbers: &[u64]) -> bool
+    ensures { IsTrue result ↔ FitsField numbers.now field.now.form field.now.counts value.now }
 {
     let counts = field.counts.as_slice();
     if counts.is_empty() {
         single_fits(field.form, value)
     } else {
-        list_fits(field.form, item_count(counts, values), value)
-    }
-}
-
-/// The product of the counts, or the greatest number where it is greater. That is more than a list has items.
-fn item_count(counts: &[Count], values: &[Value]) -> u128
-    ensures { result ≡ min (product_of (map number_of values.now) counts.now) (2 ^ 128 - 1) }
-{
-    let mut product: u128 = 1;
-    for count in counts {
-        product = product.saturating_mul(u128::from(extent(count, values)));
-    }
-    product
-}
-
-/// The items along one dimension.
-fn extent(count: &Count, values: &[Value]) -> u64
-    ensures { result ≡ extent_of (map number_of values.now) count.now }
-{
-    match count {
-        Count::Fixed(n) => u64::from(*n),
-        Count::Of(field) => number_at(values, *field),
-    }
-}
-
-/// The number that the value at `k` is, or 0.
-fn number_at(values: &[Value], k: u32) -> u64
-    ensures { result ≡ slice_index (map number_of values.now) k }
-{
-    match values.get(k as usize) {
-        Some(value) => value.number(),
-        None => 0,
+        list_fits(field.form, counts, numbers, value)
     }
 }
 
@@ -82,25 +82,38 @@ fn single_fits(form: Form, value: &Value) -> bool
     }
 }
 
-/// Whether the value is a list of `count` items, where a greatest `count` stands for all greater ones.
-fn list_fits(form: Form, count: u128, value: &Value) -> bool
-    ensures { (n : ℕ) → min n (2 ^ 128 - 1) ≡ count → (IsTrue result ↔ FitsListed form n value.now) }
+/// Whether the value is a list of as many items as the counts say.
+fn list_fits(form: Form, counts: &[Count], numbers: &[u64], value: &Value) -> bool
+    ensures { IsTrue result ↔ FitsListed form (item_count numbers.now counts.now) value.now }
 {
     match (form, value) {
-        (Form::Number(Width::One), Value::Bytes(bytes)) => count == bytes.bytes().len() as u128,
+        (Form::Number(Width::One), Value::Bytes(list)) => {
+            is_count(counts, numbers, list.bytes().len())
+        }
         (Form::Number(Width::One), _) => false,
-        (Form::Number(width), Value::Nums(numbers)) => {
-            count == numbers.len() as u128 && numbers_fit(width, numbers.as_slice())
+        (Form::Number(width), Value::Nums(list)) => {
+            let list = list.as_slice();
+            is_count(counts, numbers, list.len()) && numbers_fit(width, list)
         }
-        (Form::Pair(width), Value::Pairs(pairs)) => {
-            count == pairs.len() as u128 && pairs_fit(width, pairs.as_slice())
+        (Form::Pair(width), Value::Pairs(list)) => {
+            let list = list.as_slice();
+            is_count(counts, numbers, list.len()) && pairs_fit(width, list)
         }
-        (Form::Text, Value::Texts(texts)) => {
-            count == texts.len() as u128 && texts_fit(texts.as_slice())
+        (Form::Text, Value::Texts(list)) => {
+            let list = list.as_slice();
+            is_count(counts, numbers, list.len()) && texts_fit(list)
         }
-        (Form::Link, Value::Link(_)) => true,
+        (Form::Link, Value::Links(list)) => is_count(counts, numbers, list.as_slice().len()),
         _ => false,
     }
+}
+
+/// Whether the counts say so many items. No greater count need be told from one more.
+fn is_count(counts: &[Count], numbers: &[u64], items: usize) -> bool
+    requires { items < 2 ^ 64 - 1 }
+    ensures { IsTrue result ↔ (items ≡ item_count numbers.now counts.now) }
+{
+    capped_count(counts, numbers, items + 1) == items
 }
 
 fn numbers_fit(width: Width, numbers: &[u64]) -> bool

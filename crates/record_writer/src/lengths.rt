@@ -2,12 +2,9 @@
 ghost use Rattle.std.specs.Prelude.{◌<◌, ◌^◌, SomeIff, length, sum_by};
 ghost use Rattle.layout_plan.specs.Body.{values_length, value_length as length_of, text_length as closed_length};
 
-use layout_plan::{Field, Form};
+use layout_plan::{Field, Form, LINK_SIZE};
 use record_values::Value;
 use type_text::Name;
-
-/// The bytes of a link: a two-byte class and a four-byte instance.
-const LINK_LENGTH: u64 = 6;
 
 /// The bytes of a text beside its own: a two-byte length and the closing zero byte.
 const TEXT_FRAME: u64 = 3;
@@ -41,7 +38,8 @@ fn value_length(form: Form, value: &Value) -> Option<u64>
         }
         (Form::Text, Value::Text(text)) => text_length(text),
         (Form::Text, Value::Texts(texts)) => texts_length(texts.as_slice()),
-        (Form::Link, _) => Some(LINK_LENGTH),
+        (Form::Link, Value::Link(_)) => Some(LINK_SIZE as u64),
+        (Form::Link, Value::Links(links)) => (links.len() as u64).checked_mul(LINK_SIZE as u64),
         _ => Some(0),
     }
 }

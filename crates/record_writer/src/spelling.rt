@@ -2,9 +2,10 @@
 //! out, a part of it may stand there.
 ghost use Rattle.std.specs.Prelude.{ℕ, List, map, All, OnOk};
 ghost use Rattle.record_values.specs.Spelling.{IsNumber, IsPair, IsClosedText, IsLink, AreItems};
-ghost use Rattle.layout_plan.specs.Body.{number_of};
+ghost use Rattle.layout_plan.specs.Appends.{Appends};
+ghost use Rattle.layout_plan.specs.Body.{number_of, IsSingleBy, IsListedBy, IsFieldBy};
+ghost use Rattle.layout_plan.specs.Written.{AreClosedFields};
 ghost use Rattle.record_writer.specs.Fit.{FitsWidth, PairFitsWidth, IsShortText, FitsSingle, FitsListed, FitsField, Fits};
-ghost use Rattle.record_writer.specs.Closed.{IsClosedSingle, IsClosedListed, IsClosedField, AreClosedFields, Appends};
 
 use layout_plan::{Field, Form};
 use record_values::Value;
@@ -40,7 +41,7 @@ fn push_field(
 ) -> Result<(), AllocError>
     requires { (numbers : List ℕ) × FitsField numbers field.now.form field.now.counts value.now }
     ensures { (numbers : List ℕ) → FitsField numbers field.now.form field.now.counts value.now → Appends
-        (λ bytes. OnOk result (IsClosedField order numbers field.now.form field.now.counts value.now bytes))
+        (λ bytes. OnOk result (IsFieldBy (IsClosedText order) order numbers field.now.form field.now.counts value.now bytes))
         into.old.items
         into.new.items }
 {
@@ -59,7 +60,7 @@ fn push_single(
 ) -> Result<(), AllocError>
     requires { FitsSingle form value.now }
     ensures { Appends
-        (λ bytes. OnOk result (IsClosedSingle order form value.now bytes))
+        (λ bytes. OnOk result (IsSingleBy (IsClosedText order) order form value.now bytes))
         into.old.items
         into.new.items }
 {
@@ -75,7 +76,7 @@ fn push_single(
 fn push_list(order: Order, form: Form, value: &Value, into: &mut Vec<u8>) -> Result<(), AllocError>
     requires { (n : ℕ) × FitsListed form n value.now }
     ensures { (n : ℕ) → FitsListed form n value.now → Appends
-        (λ bytes. OnOk result (IsClosedListed order form n value.now bytes))
+        (λ bytes. OnOk result (IsListedBy (IsClosedText order) order form n value.now bytes))
         into.old.items
         into.new.items }
 {
@@ -91,7 +92,7 @@ fn push_list(order: Order, form: Form, value: &Value, into: &mut Vec<u8>) -> Res
             into,
         ),
         (Form::Text, Value::Texts(texts)) => push_texts(order, texts.as_slice(), into),
-        (Form::Link, Value::Link(link)) => push_link(order, link, into),
+        (Form::Link, Value::Links(links)) => push_links(order, links.as_slice(), into),
         _ => unreachable!(),
     }
 }
@@ -141,6 +142,18 @@ fn push_texts(order: Order, texts: &[Name], into: &mut Vec<u8>) -> Result<(), Al
 {
     for text in texts {
         push_text(order, text, into)?;
+    }
+    Ok(())
+}
+
+fn push_links(order: Order, links: &[Link], into: &mut Vec<u8>) -> Result<(), AllocError>
+    ensures { Appends
+        (λ bytes. OnOk result (AreItems (IsLink order) links.now bytes))
+        into.old.items
+        into.new.items }
+{
+    for link in links {
+        push_link(order, link, into)?;
     }
     Ok(())
 }

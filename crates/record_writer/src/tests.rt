@@ -2,7 +2,7 @@
 use super::*;
 use dictionary::{Element, ElementList, Entry};
 use layout_plan::{Plan, compile};
-use record_values::{NumList, PairList, TextList, Value, ValueList};
+use record_values::{LinkList, NumList, PairList, TextList, Value, ValueList};
 use scalar_types::Order;
 use std::alloc::{AllocError, Global};
 use std::test::Fail;
@@ -19,6 +19,7 @@ enum Row {
     Texts(&'static [&'static [u8]]),
     Bytes(&'static [u8]),
     Link(u16, u32),
+    Links(&'static [(u16, u32)]),
 }
 
 /// The names and types of a layout's elements, the values, and their body in little and in big order.
@@ -29,7 +30,9 @@ type Body = (
     &'static [u8],
 );
 
-const BODIES: [Body; 13] = [
+const LINKS: [(&str, &str); 2] = [("n", "INT_2S"), ("v", "PTR_STRUCT(FrVect *)[n]")];
+
+const BODIES: [Body; 15] = [
     (
         &[
             ("a", "INT_1S"),
@@ -165,10 +168,23 @@ const BODIES: [Body; 13] = [
             255, 255, 255, 255, 255, 255, 255, 255, 0, 0, 0, 0, 0, 0, 0, 0,
         ],
     ),
+    (
+        &LINKS,
+        &[Row::Num(2), Row::Links(&[(7, 0), (0, 5)])],
+        &[2, 0, 7, 0, 0, 0, 0, 0, 0, 0, 5, 0, 0, 0],
+        &[0, 2, 0, 7, 0, 0, 0, 0, 0, 0, 0, 0, 0, 5],
+    ),
+    // A number below zero counts no items.
+    (
+        &LINKS,
+        &[Row::Num(0xffff), Row::Links(&[])],
+        &[255, 255],
+        &[255, 255],
+    ),
 ];
 
 /// Names and types of elements, and values that do not fit them.
-const MISFITS: [(&[(&str, &str)], &[Row]); 7] = [
+const MISFITS: [(&[(&str, &str)], &[Row]); 8] = [
     (&[("a", "CHAR")], &[Row::Num(256)]),
     (
         &[("n", "INT_2U"), ("v", "INT_2U[n]")],
@@ -178,6 +194,7 @@ const MISFITS: [(&[(&str, &str)], &[Row]); 7] = [
     (&[("a", "CHAR")], &[]),
     (&[("a", "COMPLEX_8")], &[Row::Pair(1, 0x1_0000_0000)]),
     (&[("a", "STRING")], &[Row::Link(0, 0)]),
+    (&LINKS, &[Row::Num(0xffff), Row::Links(&[(7, 0)])]),
     (
         &[
             ("n", "INT_8U"),
@@ -211,6 +228,17 @@ fn texts(alloc: Global, texts: &[&[u8]]) -> Result<TextList, AllocError> {
     Ok(list)
 }
 
+fn links(alloc: Global, links: &[(u16, u32)]) -> Result<LinkList, AllocError> {
+    let mut list = LinkList::new(alloc);
+    for (class, instance) in links {
+        list.push(Link {
+            class: *class,
+            instance: *instance,
+        })?;
+    }
+    Ok(list)
+}
+
 fn value(alloc: Global, row: Row) -> Result<Value, AllocError> {
     Ok(match row {
         Row::Num(n) => Value::Num(n),
@@ -221,6 +249,7 @@ fn value(alloc: Global, row: Row) -> Result<Value, AllocError> {
         Row::Texts(list) => Value::Texts(texts(alloc, list)?),
         Row::Bytes(bytes) => Value::Bytes(Name::new(alloc, bytes)?),
         Row::Link(class, instance) => Value::Link(Link { class, instance }),
+        Row::Links(list) => Value::Links(links(alloc, list)?),
     })
 }
 

@@ -1,6 +1,6 @@
 use Rattle.std.proofs.Common.{take}
 use Rattle.record_values.specs.Spelling.{IsNumber, AreItems}
-use Rattle.record_writer.specs.Closed.{Appends}
+use Rattle.layout_plan.specs.Appends.{Appends}
 use Rattle.record_writer.proofs.spelling.push_numbers.Given as goal
 
 abbrev pub invariant-loop-number : goal.invariant-loop-number

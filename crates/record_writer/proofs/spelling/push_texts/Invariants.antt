@@ -1,6 +1,6 @@
 use Rattle.std.proofs.Common.{take}
 use Rattle.record_values.specs.Spelling.{IsClosedText, AreItems}
-use Rattle.record_writer.specs.Closed.{Appends}
+use Rattle.layout_plan.specs.Appends.{Appends}
 use Rattle.record_writer.proofs.spelling.push_texts.Given as goal
 
 abbrev pub invariant-loop-text : goal.invariant-loop-text
