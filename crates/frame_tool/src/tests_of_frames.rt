@@ -118,6 +118,50 @@ fn judges_frames(rt: HostRuntime) -> Result<(), Fail> {
     Ok(())
 }
 
+/// An entry of class 12: the number of its members, and a link to each.
+const GROUP: &[u8] = b"\
+    \x1f\0\0\0\0\0\0\0\0\x01\x08\0\0\0\x06\0Group\0\x0c\0\x01\0\0\0\0\0\0\
+    &\0\0\0\0\0\0\0\0\x02\0\0\0\0\x06\0count\0\x07\0INT_4U\0\x01\0\0\0\0\0\0\
+    =\0\0\0\0\0\0\0\0\x02\x01\0\0\0\x08\0members\0\x1c\0PTR_STRUCT(FrVect *)[count]\0\x01\0\0\0\0\0\0";
+
+#[test]
+fn judges_lists_of_links(rt: HostRuntime) -> Result<(), Fail> {
+    let rows: [Row; 3] = [
+        (
+            "the second member leads nowhere",
+            &[
+                Full(0, 2505),
+                Bytes(GROUP),
+                Bytes(b"\x1e\0\0\0\0\0\0\0\0\x0c\0\0\0\0\x02\0\0\0\x07\0\0\0\0\0\x07\0\x09\0\0\0"),
+                Rest(2505),
+            ],
+            "fault: file 0 at 2635 field 1: 20 LooseLink\n",
+        ),
+        (
+            "each member has its vector",
+            &[
+                Full(0, 2505),
+                Bytes(GROUP),
+                Bytes(b"\x1e\0\0\0\0\0\0\0\0\x0c\0\0\0\0\x02\0\0\0\x07\0\x02\0\0\0\x07\0\0\0\0\0"),
+                Rest(2505),
+            ],
+            "accepted\norder: little\nframes: 1\nrecords: 11\nbytes: 3797\n",
+        ),
+        (
+            "the first member is null",
+            &[
+                Full(0, 2505),
+                Bytes(GROUP),
+                Bytes(b"\x1e\0\0\0\0\0\0\0\0\x0c\0\0\0\0\x02\0\0\0\0\0\x09\0\0\0\x07\0\x01\0\0\0"),
+                Rest(2505),
+            ],
+            "accepted\norder: little\nframes: 1\nrecords: 11\nbytes: 3797\n",
+        ),
+    ];
+    check_rows(&rt, rt.alloc(), rows.as_slice())?;
+    Ok(())
+}
+
 #[test]
 fn judges_the_closing(rt: HostRuntime) -> Result<(), Fail> {
     let rows: [Row; 10] = [

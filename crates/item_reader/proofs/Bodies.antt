@@ -1,5 +1,6 @@
 -- The readings of bodies, and those of the dictionary's own structures.
-use Rattle.std.proofs.Common.{◌≡◌, ℕ, List, [], ◌∷◌, Option, Some, None, Result, Ok, Err, refl, sym, ap, subst, arith}
+use Rattle.std.proofs.Common.{◌≡◌, ℕ, List, [], ◌∷◌, Option, Some, None, Result, Ok, Err, refl, sym, ap, ◌∙◌, subst, arith}
+use Rattle.std.specs.Prelude.{slice_get}
 use Rattle.std.specs.List.{All}
 use Rattle.std.specs.Option.{option_map}
 use Rattle.std.specs.Result.{result_ok, result_err}
@@ -7,13 +8,15 @@ use Rattle.scalar_types.specs.declared.Order.{Order}
 use Rattle.scalar_types.specs.declared.Width.{Width}
 use Rattle.record_values.specs.declared.values.Value.{Value}
 use Rattle.record_values.specs.declared.values.Value.TheVariants as value
+use Rattle.layout_plan.specs.declared.fields.Form.{Form}
 use Rattle.layout_plan.specs.declared.fields.Form.TheVariants.{Number, Text}
 use Rattle.layout_plan.specs.declared.fields.Field.{Field}
 use Rattle.layout_plan.specs.declared.faults.BodyFault.{BodyFault}
 use Rattle.layout_plan.specs.Layout.{IsEarlier, AreSound}
 use Rattle.layout_plan.specs.Body.{IsSingle, AreFields, IsBody}
 use Rattle.layout_plan.specs.Reading.{body_in, fault_of}
-use Rattle.layout_plan.specs.BuiltIn.{structure_fields, element_fields}
+use Rattle.layout_plan.specs.BuiltIn.{single, structure_fields, element_fields}
+use Rattle.layout_plan.specs.Lent.{IsSingleField}
 use Rattle.layout_plan.proofs.BodyLemmas.{body_in-found, body_in-again}
 use Rattle.item_reader.specs.Record.{Reading, reading_by}
 
@@ -78,6 +81,15 @@ structure_fields-sound = (no_counts 0, (no_counts 1, (no_counts 2, tt)))
 
 pub element_fields-sound : AreSound 0 element_fields
 element_fields-sound = (no_counts 0, (no_counts 1, (no_counts 2, tt)))
+
+-- a single field of a known layout
+pub single-field : (fields known : List Field) (k : ℕ) (form : Form) → fields ≡ known → slice_get known k ≡ Some (single form) → IsSingleField fields k form
+single-field fields known k form are is = record {
+  field = single form;
+  is = ap (λ fields. slice_get fields k) are ∙ is;
+  form_is = refl;
+  single = refl;
+}
 
 text-value : (order : Order) (v : Value) (bytes : List ℕ) → IsSingle order Text v bytes → (text : List ℕ) × (v ≡ value.Text text)
 text-value order (value.Text text) bytes s = (text, refl)

@@ -4,8 +4,8 @@ use Rattle.scalar_types.specs.declared.Order.TheVariants.{Little}
 use Rattle.dictionary.specs.declared.entries.Entry.{Entry}
 use Rattle.dictionary.specs.Dictionary.{step}
 use Rattle.layout_plan.specs.Layout.{layout_of}
-use Rattle.layout_plan.specs.Reading.{body_in, items_in}
-use Rattle.item_reader.specs.declared.reason.Reason.TheVariants.{CutRecord, LengthSmall, RecordLimit, NoLayout, BodyLong, BadText, StrayElement, ClassRange, NameTwice, NoFrameH, NoEnd}
+use Rattle.layout_plan.specs.Reading.{body_in}
+use Rattle.item_reader.specs.declared.reason.Reason.TheVariants.{CutRecord, LengthSmall, NoLayout, BodyLong, BadText, StrayElement, ClassRange, NameTwice, NoFrameH, NoEnd}
 use Rattle.item_reader.specs.Item.{nothing_yet}
 use Rattle.item_reader.specs.Fault.{Here, fault_here, fault_at}
 use Rattle.item_reader.specs.Described.{run_at}

@@ -28,7 +28,6 @@ pub mod Standing
 pub mod Located
 pub mod Parts
 pub mod Growing
-pub mod NamedElements
 pub mod LooseLinks
 pub mod Placing
 pub mod Describing

@@ -16,9 +16,11 @@ use Rattle.record_values.specs.declared.values.Value.TheVariants as value
 use Rattle.dictionary.specs.declared.entries.Element.{Element}
 use Rattle.dictionary.specs.declared.entries.Entry.{Entry}
 use Rattle.dictionary.specs.Dictionary.{entry_of, IsDictionary}
+use Rattle.dictionary.specs.Named.{first_named}
 use Rattle.layout_plan.specs.declared.fields.Form.TheVariants.{Number}
+use Rattle.layout_plan.specs.declared.fields.Count.{Count}
 use Rattle.layout_plan.specs.declared.fields.Field.{Field}
-use Rattle.layout_plan.specs.Layout.{form_of, has_no_dims, first_named, counter_in, counts_of, field_of_type, field_of, fields_after, layout_of}
+use Rattle.layout_plan.specs.Layout.{form_of, has_no_dims, count_in, counts_of, is_check_sum, is_last, field_of_type, field_of, fields_after, layout_of}
 use Rattle.layout_plan.specs.Body.{number_of, HasBody}
 use Rattle.layout_plan.specs.Plans.{plan_of}
 use Rattle.layout_plan.specs.Lent.{IsNumberField, HasNumberAt}
@@ -40,24 +42,25 @@ number-form Int4U e = (Four, refl)
 number-form Int8U e = (Eight, refl)
 number-form base e = absurd (false≢true e)
 
-no-counts : (counter : List ℕ → Option ℕ) (dims : List Dim) → has_no_dims dims ≡ true → counts_of counter dims ≡ Some []
-no-counts counter [] e = refl
-no-counts counter (d ∷ ds) e = absurd (false≢true e)
+no-counts : (named : List ℕ → Option Count) (dims : List Dim) → has_no_dims dims ≡ true → counts_of named dims ≡ Some []
+no-counts named [] e = refl
+no-counts named (d ∷ ds) e = absurd (false≢true e)
 
 abbrev IsSingleNumber : Field → Type 0
-IsSingleNumber f = (w : Width) × (f ≡ record { form = Number w; counts = [] })
+IsSingleNumber f = (w : Width) × (f.form ≡ Number w) × (f.counts ≡ [])
 
-single-field : (counter : List ℕ → Option ℕ) (e : Element) (f : Field) → is_single is_count e ≡ true → field_of counter e ≡ Some f → IsSingleNumber f
-single-field counter e f single is = by e.ty single is
+single-field : (named : List ℕ → Option Count) (last : Bool) (e : Element) (f : Field) → is_single is_count e ≡ true → field_of named last e ≡ Some f → IsSingleNumber f
+single-field named last e f single is = by (last && is_check_sum e) e.ty single is
   where
-    by : (o : Option ElementType) → option_map_or (λ ty. is_count ty.base && has_no_dims ty.dims) o false ≡ true → option_and_then (field_of_type counter) o ≡ Some f → IsSingleNumber f
-    by None single is = absurd (false≢true single)
-    by (Some ty) single is =
+    by : (is_sum : Bool) (o : Option ElementType) → option_map_or (λ ty. is_count ty.base && has_no_dims ty.dims) o false ≡ true → option_and_then (field_of_type named is_sum) o ≡ Some f → IsSingleNumber f
+    by is_sum None single is = absurd (false≢true single)
+    by is_sum (Some ty) single is =
         let both = and_parts (is_count ty.base) (has_no_dims ty.dims) single in
         let form = number-form ty.base both.0 in
-        let made : field_of_type counter ty ≡ Some (record { form = form_of ty.base; counts = [] }) = ap (option_map (λ counts. record { form = form_of ty.base; counts = counts })) (no-counts counter ty.dims both.1) in
-        let same : record { form = form_of ty.base; counts = [] } ≡ f = same_Some (record { form = form_of ty.base; counts = [] }) f (sym made ∙ is) in
-        (form.0, sym same ∙ (λ i. record { form = form.1 i; counts = [] }))
+        let whole : Field = record { form = form_of ty.base; counts = []; is_sum = is_sum } in
+        let made : field_of_type named is_sum ty ≡ Some whole = ap (option_map (λ counts. record { form = form_of ty.base; counts = counts; is_sum = is_sum })) (no-counts named ty.dims both.1) in
+        let same : whole ≡ f = same_Some whole f (sym made ∙ is) in
+        (form.0, sym (ap (λ (f : Field). f.form) same) ∙ form.1, sym (ap (λ (f : Field). f.counts) same))
 
 -- ---- the first element of a name
 
@@ -75,26 +78,26 @@ named-at k (x ∷ xs) name i e is = by (bytes_eq name x.name) (named-at (k + 1) 
         (suc later.0, omega (arith, later.1), later.2)
 
 -- the field at the number of an element is that of the element
-field-at : (earlier es : List Element) (fs : List Field) (j : ℕ) (e : Element) → fields_after earlier es ≡ Some fs → slice_get es j ≡ Some e → (counter : List ℕ → Option ℕ) × (f : Field) × (slice_get fs j ≡ Some f) × (field_of counter e ≡ Some f)
+field-at : (earlier es : List Element) (fs : List Field) (j : ℕ) (e : Element) → fields_after earlier es ≡ Some fs → slice_get es j ≡ Some e → (named : List ℕ → Option Count) × (last : Bool) × (f : Field) × (slice_get fs j ≡ Some f) × (field_of named last e ≡ Some f)
 field-at earlier [] fs j e is at = absurd (none-some e at)
 field-at earlier (x ∷ xs) fs j e is at =
-    first (λ rest k. field-at (earlier ++ x ∷ []) xs rest k e) (field_of (counter_in earlier) x) refl is
+    first (λ rest k. field-at (earlier ++ x ∷ []) xs rest k e) (field_of (count_in earlier) (is_last xs) x) refl is
   where
     Found : List Field → Type 0
-    Found fs = (counter : List ℕ → Option ℕ) × (f : Field) × (slice_get fs j ≡ Some f) × (field_of counter e ≡ Some f)
+    Found fs = (named : List ℕ → Option Count) × (last : Bool) × (f : Field) × (slice_get fs j ≡ Some f) × (field_of named last e ≡ Some f)
 
     Later : Type 0
-    Later = (rest : List Field) (k : ℕ) → fields_after (earlier ++ x ∷ []) xs ≡ Some rest → slice_get xs k ≡ Some e → (counter : List ℕ → Option ℕ) × (f : Field) × (slice_get rest k ≡ Some f) × (field_of counter e ≡ Some f)
+    Later = (rest : List Field) (k : ℕ) → fields_after (earlier ++ x ∷ []) xs ≡ Some rest → slice_get xs k ≡ Some e → (named : List ℕ → Option Count) × (last : Bool) × (f : Field) × (slice_get rest k ≡ Some f) × (field_of named last e ≡ Some f)
 
-    here : Later → (j : ℕ) → slice_get (x ∷ xs) j ≡ Some e → (f : Field) (rest : List Field) → field_of (counter_in earlier) x ≡ Some f → fields_after (earlier ++ x ∷ []) xs ≡ Some rest → (counter : List ℕ → Option ℕ) × (g : Field) × (slice_get (f ∷ rest) j ≡ Some g) × (field_of counter e ≡ Some g)
-    here later zero at f rest is others = (counter_in earlier, f, refl, ap (field_of (counter_in earlier)) (sym (same_Some x e at)) ∙ is)
+    here : Later → (j : ℕ) → slice_get (x ∷ xs) j ≡ Some e → (f : Field) (rest : List Field) → field_of (count_in earlier) (is_last xs) x ≡ Some f → fields_after (earlier ++ x ∷ []) xs ≡ Some rest → (named : List ℕ → Option Count) × (last : Bool) × (g : Field) × (slice_get (f ∷ rest) j ≡ Some g) × (field_of named last e ≡ Some g)
+    here later zero at f rest is others = (count_in earlier, is_last xs, f, refl, ap (field_of (count_in earlier) (is_last xs)) (sym (same_Some x e at)) ∙ is)
     here later (suc j) at f rest is others = later rest j others at
 
-    after : Later → (f : Field) → field_of (counter_in earlier) x ≡ Some f → (o : Option (List Field)) → fields_after (earlier ++ x ∷ []) xs ≡ o → option_map (λ fs. f ∷ fs) o ≡ Some fs → Found fs
+    after : Later → (f : Field) → field_of (count_in earlier) (is_last xs) x ≡ Some f → (o : Option (List Field)) → fields_after (earlier ++ x ∷ []) xs ≡ o → option_map (λ fs. f ∷ fs) o ≡ Some fs → Found fs
     after later f is None others e = absurd (none-some fs e)
     after later f is (Some rest) others e = subst Found (same_Some (f ∷ rest) fs e) (here later j at f rest is others)
 
-    first : Later → (o : Option Field) → field_of (counter_in earlier) x ≡ o → option_and_then (λ f. option_map (λ fs. f ∷ fs) (fields_after (earlier ++ x ∷ []) xs)) o ≡ Some fs → Found fs
+    first : Later → (o : Option Field) → field_of (count_in earlier) (is_last xs) x ≡ o → option_and_then (λ f. option_map (λ fs. f ∷ fs) (fields_after (earlier ++ x ∷ []) xs)) o ≡ Some fs → Found fs
     first later None is e = absurd (none-some fs e)
     first later (Some f) is e = after later f is (fields_after (earlier ++ x ∷ []) xs) refl e
 
@@ -111,11 +114,11 @@ numbered es fs name i e layout passes found =
     let same : i ≡ at.0 = omega (arith, at.1) in
     let single : is_single is_count e ≡ true = sym (ap (λ o. option_map_or (λ (found : ℕ × Element). is_single is_count found.1) o false) found) ∙ passes in
     let field = field-at [] es fs at.0 e layout at.2 in
-    let number = single-field field.0 e field.1 single field.3 in
-    let get : slice_get fs i ≡ Some (record { form = Number number.0; counts = [] }) = ap (slice_get fs) same ∙ field.2 ∙ ap Some number.1 in
+    let number = single-field field.0 field.1 e field.2 single field.4 in
+    let get : slice_get fs i ≡ Some field.2 = ap (slice_get fs) same ∙ field.3 in
     record {
-      field = (number.0, get);
-      within = slice_get_within fs i (record { form = Number number.0; counts = [] }) get;
+      field = (number.0, record { field = field.2; is = get; form_is = number.1; single = number.2 });
+      within = slice_get_within fs i field.2 get;
       element = slice_get_within es i e (ap (slice_get es) same ∙ at.2);
     }
 

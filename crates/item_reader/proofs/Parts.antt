@@ -12,6 +12,7 @@ use Rattle.layout_plan.specs.Body.{values_length, HasBody, IsMeasured}
 use Rattle.layout_plan.specs.Layout.{AreSound, layout_of}
 use Rattle.layout_plan.specs.Reading.{fault_of}
 use Rattle.layout_plan.specs.BuiltIn.{structure_fields, element_fields}
+use Rattle.layout_plan.proofs.LengthLemmas.{body-length}
 use Rattle.item_reader.specs.declared.reason.Reason.{Reason}
 use Rattle.item_reader.specs.declared.reason.Reason.TheVariants.{RecordLimit, FrameLimit, NoLayout, UnreadLayout, BodyShort, BodyLong, BadText, StrayElement, InstanceTwice, FrameHTwice, FrameCount, ByteCount, FileLimit}
 use Rattle.item_reader.specs.declared.fault.Fault.{Fault}
@@ -151,7 +152,7 @@ measured-read h fs links zero_texts size is m =
     let reading : Reading = record { fields = fs; values = m.values; tail = m.tail } in
     let reads : reading_by h.order (structure h).body fs ≡ Some reading = reading-again h.order (structure h).body fs m.values m.tail (fields-sound h fs is) m.body in
     let good : body_fault h ≡ None = ap (option_and_then (λ fields. fault_of h.order fields (structure h).body)) is ∙ no_fault-reading h.order (structure h).body fs reading reads in
-    let told_is : length (structure h).body + zero_texts ≡ values_length fs m.values + length m.tail = m.zero_texts_are in
+    let told_is : length (structure h).body + zero_texts ≡ values_length fs m.values + length m.tail = omega (arith, m.zero_texts_are, body-length h.order fs m.values m.tail (structure h).body m.body) in
     record {
       reading = reading;
       reads = reads;

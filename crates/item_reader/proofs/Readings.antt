@@ -1,27 +1,20 @@
--- The body at a place, by the layout of its kind: its fault, its reading and its weight.
-use Rattle.std.proofs.Common.{◌≡◌, ℕ, ◌+◌, true, List, length, Some, None, refl, sym, ap, ◌∙◌, arith, true≢false}
+-- The body at a place, by the layout of its kind: its fault and its reading.
+use Rattle.std.proofs.Common.{◌≡◌, true, List, Some, None, refl, sym, ap, ◌∙◌, true≢false}
 use Rattle.std.specs.Prelude.{option_and_then}
-use Rattle.std.specs.Option.{option_map_or}
 use Rattle.dictionary.specs.declared.entries.Entry.{Entry}
 use Rattle.dictionary.specs.Dictionary.{step}
 use Rattle.layout_plan.specs.declared.fields.Field.{Field}
 use Rattle.layout_plan.specs.declared.faults.BodyFault.{BodyFault}
-use Rattle.layout_plan.specs.Body.{IsMeasured, values_length}
 use Rattle.layout_plan.specs.Reading.{fault_of}
 use Rattle.layout_plan.specs.BuiltIn.{structure_fields, element_fields}
 use Rattle.item_reader.specs.declared.reason.Reason.TheVariants.{UnreadLayout}
 use Rattle.item_reader.specs.declared.kind.Kind.{Kind}
 use Rattle.item_reader.specs.declared.kind.Kind.TheVariants.{FrSH, FrSE, FrameH, FrEndOfFrame, FrEndOfFile, Other}
-use Rattle.item_reader.specs.Structure.{size_of}
 use Rattle.item_reader.specs.Record.{Reading, layout_in, reading_by, reading_of}
 use Rattle.item_reader.specs.Described.{entry_from}
-use Rattle.item_reader.specs.Fault.{Here, place, told, held, class, kind, structure, weight, fields, fields_by, body_fault, err_of, refusal, refusal_by}
-use Rattle.item_reader.specs.Steps.{length_reason}
-use Rattle.item_reader.proofs.Lengths.{length-fits}
-use Rattle.item_reader.proofs.Structures.{size-structure_at}
+use Rattle.item_reader.specs.Fault.{Here, held, class, kind, structure, fields, fields_by, body_fault, err_of, refusal, refusal_by}
 use Rattle.item_reader.proofs.Applying.{applies}
-use Rattle.item_reader.proofs.Bodies.{reading-again, reading-unless_fault, unread-fault}
-use Rattle.item_reader.proofs.Weights.{layout-sound}
+use Rattle.item_reader.proofs.Bodies.{reading-unless_fault, unread-fault}
 
 -- the layout of each kind's body
 pub fields-FrSH : (h : Here) → kind h ≡ FrSH → fields h ≡ Some structure_fields
@@ -63,12 +56,3 @@ unread-no_layout h layout = ap (λ o. option_and_then (reading_by h.order (struc
 pub unread-here : (h : Here) (fs : List Field) (f : BodyFault) → layout_in (held h) (class h) ≡ Some fs → fault_of h.order fs (structure h).body ≡ Some f → reading_of h.order (held h) (structure h) ≡ None
 unread-here h fs f layout fault =
     ap (λ o. option_and_then (reading_by h.order (structure h).body) o) layout ∙ unread-fault h.order (structure h).body fs f fault
-
--- a body that is measured weighs its length, and one more for each text that is spelled by a length of 0 alone
-pub weight-measured : (h : Here) (fs : List Field) (links zero_texts : ℕ) → length_reason h.order h.file (place h) ≡ None → layout_in (held h) (class h) ≡ Some fs → IsMeasured h.order fs (structure h).body links zero_texts → weight h ≡ told h + zero_texts
-weight-measured h fs links zero_texts none layout measured =
-    let reading : Reading = record { fields = fs; values = measured.values; tail = measured.tail } in
-    let read : reading_of h.order (held h) (structure h) ≡ Some reading = ap (λ o. option_and_then (reading_by h.order (structure h).body) o) layout ∙ reading-again h.order (structure h).body fs measured.values measured.tail (layout-sound (held h) (class h) fs layout) measured.body in
-    let weighs : weight h ≡ 14 + (values_length fs measured.values + length measured.tail) = ap (λ o. option_map_or (λ (r : Reading). 14 + (values_length r.fields r.values + length r.tail)) o (size_of (structure h))) read in
-    let size : size_of (structure h) ≡ told h = size-structure_at h.order h.file (place h) (length-fits h.order h.file (place h) none) in
-    omega (arith, weighs, size, measured.zero_texts_are)

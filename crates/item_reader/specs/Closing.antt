@@ -7,7 +7,8 @@ use Rattle.type_text.specs.declared.types.ElementType.{ElementType}
 use Rattle.type_text.specs.declared.types.Base.TheVariants.{Int4U, Int8U}
 use Rattle.record_values.specs.declared.values.Value.{Value}
 use Rattle.dictionary.specs.declared.entries.Element.{Element}
-use Rattle.layout_plan.specs.Layout.{first_named, has_no_dims}
+use Rattle.dictionary.specs.Named.{first_named}
+use Rattle.layout_plan.specs.Layout.{has_no_dims}
 use Rattle.layout_plan.specs.Body.{number_of}
 
 -- the base of an element that reads and has no dimension

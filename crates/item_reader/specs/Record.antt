@@ -1,18 +1,19 @@
 -- What a structure's body holds by the dictionary, its weight, and the targets of its links.
-use Rattle.std.specs.Prelude.{◌≡◌, ℕ, ◌+◌, ◌==◌, ◌&&◌, ◌⊎◌, Bool, false, not, List, [], ◌∷◌, length, All, Any, find, is_some, position, Option, Some, None, option_and_then}
+use Rattle.std.specs.Prelude.{◌≡◌, ℕ, ◌+◌, ◌==◌, ◌&&◌, ◌⊎◌, Bool, not, List, [], ◌∷◌, length, All, Any, find, is_some, Option, Some, None, option_and_then}
 use Rattle.std.specs.Option.{option_map, option_map_or}
 use Rattle.std.specs.Result.{result_ok}
 use Rattle.scalar_types.specs.declared.Order.{Order}
 use Rattle.type_text.specs.declared.types.Link.{Link}
 use Rattle.record_values.specs.declared.values.Value.{Value}
-use Rattle.record_values.specs.declared.values.Value.TheVariants as value
+use Rattle.record_values.specs.Links.{links_in}
 use Rattle.dictionary.specs.declared.entries.Entry.{Entry}
 use Rattle.dictionary.specs.Dictionary.{entry_of}
 use Rattle.layout_plan.specs.declared.fields.Field.{Field}
+use Rattle.layout_plan.specs.declared.links.FieldLink.{FieldLink}
 use Rattle.layout_plan.specs.Layout.{layout_of}
 use Rattle.layout_plan.specs.Body.{values_length}
 use Rattle.layout_plan.specs.Reading.{body_in}
-use Rattle.layout_plan.specs.Links.{links_in}
+use Rattle.layout_plan.specs.Links.{field_links}
 use Rattle.item_reader.specs.Structure.{Structure, size_of}
 
 -- the layout of a class, where the class is held and its layout is readable
@@ -51,16 +52,20 @@ is_target link s = s.class == link.class && s.instance == link.instance
 abbrev pub has_target : List Structure → Link → Bool
 has_target frame link = is_some (find (is_target link) frame)
 
--- the value is a link that is not null and has no target in the frame; the null link is the one of class 0
-abbrev pub is_loose : List Structure → Value → Bool
-is_loose frame (value.Link link) = not (link.class == 0) && not (has_target frame link)
-is_loose frame v = false
+-- the link is not null and has no target in the frame; the null link is the one of class 0
+abbrev pub is_loose : List Structure → Link → Bool
+is_loose frame link = not (link.class == 0) && not (has_target frame link)
 
--- the place and the field of the first loose link of these records, in the order of the file and of the fields
+-- the field of the first of these links that is loose
+abbrev pub loose_field : List Structure → List FieldLink → Option ℕ
+loose_field frame links =
+    option_map (λ (found : FieldLink). found.field) (find (λ (found : FieldLink). is_loose frame found.link) links)
+
+-- The place and the field of the first loose link of these records: in the order of the file, within a record in that of its fields, and within a field in that of its items.
 abbrev pub first_loose : Order → List Entry → List Structure → List Structure → Option (ℕ × ℕ)
 first_loose order held frame [] = None
 first_loose order held frame (s ∷ ss) =
-    option_map_or (λ field. Some (s.at, field)) (position (is_loose frame) (values_of order held s)) (first_loose order held frame ss)
+    option_map_or (λ field. Some (s.at, field)) (loose_field frame (field_links 0 (values_of order held s))) (first_loose order held frame ss)
 
 -- a link that is null or leads to a record of the frame
 abbrev pub HasTarget : List Structure → Link → Type 0

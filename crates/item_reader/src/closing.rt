@@ -2,11 +2,10 @@
 
 ghost use Rattle.std.specs.Prelude.{◌≡◌};
 ghost use Rattle.std.specs.List.{list_all};
-ghost use Rattle.std.specs.Option.{option_map, option_copied};
-ghost use Rattle.layout_plan.specs.Layout.{first_named};
+ghost use Rattle.std.specs.Option.{option_copied};
 ghost use Rattle.item_reader.specs.Closing.{closes, has_named, is_single, is_any, is_count, is_size, single_base};
 
-use dictionary::Element;
+use dictionary::{Element, first_named};
 use type_text::Base;
 
 /// The field that tells how many frames the file has.
@@ -71,16 +70,4 @@ fn single_base(element: &Element) -> Option<&Base>
     } else {
         None
     }
-}
-
-/// The first element of a name, with its number from 0.
-pub fn first_named<'a>(elements: &'a [Element], name: &[u8]) -> Option<(usize, &'a Element)>
-    ensures { option_map (λ found. (found.0, found.1.now)) result ≡ first_named 0 elements.now name.now }
-{
-    for (i, element) in elements.iter().enumerate() {
-        if name == element.name.bytes() {
-            return Some((i, element));
-        }
-    }
-    None
 }

@@ -1,17 +1,17 @@
 //! The records of the frame that is open, and the targets of their links. Each is looked for by plain search.
 
-ghost use Rattle.std.specs.Prelude.{◌≡◌, position};
-ghost use Rattle.record_values.specs.declared.values.Value.TheVariants as value;
-ghost use Rattle.layout_plan.specs.Links.{is_link};
+ghost use Rattle.std.specs.Prelude.{◌≡◌, IfOk};
+ghost use Rattle.layout_plan.specs.Links.{field_links};
 ghost use Rattle.item_reader.specs.Structure.{structure_at};
-ghost use Rattle.item_reader.specs.Record.{has_target, is_loose, values_of, first_loose};
+ghost use Rattle.item_reader.specs.Record.{has_target, is_loose, values_of, loose_field, first_loose};
 ghost use Rattle.item_reader.specs.Fault.{has_header};
 ghost use Rattle.item_reader.specs.Reached.{IsSound, IsKept, frame_of};
 
 use crate::kind::{Kind, kind_of};
 use crate::reached::Reached;
 use crate::structure::placed_at;
-use layout_plan::{Field, Form, link_at};
+use layout_plan::{FieldLink, push_links};
+use std::alloc::{AllocError, Global};
 use type_text::Link;
 
 impl Reached {
@@ -43,50 +43,49 @@ impl Reached {
         false
     }
 
-    /// The place and the field of the frame's first link that is not null and has no target.
-    pub fn first_loose(&self) -> Option<(usize, u32)>
+    /// The place and the field of the frame's first link that is not null and has no target. Each record's links cost one walk over
+    /// its body.
+    pub fn first_loose(&self, alloc: Global) -> Result<Option<(usize, u32)>, AllocError>
         requires { IsSound self.now }
-        ensures { result ≡ first_loose self.now.order self.now.dictionary (frame_of self.now) (frame_of self.now) }
+        ensures { IfOk result (λ found. found ≡ first_loose self.now.order self.now.dictionary (frame_of self.now) (frame_of self.now)) }
     {
+        let mut links = Vec::new(alloc);
         for at in self.frame.as_slice() {
-            if let Some(field) = self.loose_field(*at) {
-                return Some((*at, field));
+            if let Some(field) = self.loose_field(*at, &mut links)? {
+                return Ok(Some((*at, field)));
             }
         }
-        None
+        Ok(None)
     }
 
-    /// The field of the first such link of the record at a place.
-    fn loose_field(&self, at: usize) -> Option<u32>
+    /// The field of the first such link of the record at a place. `links` is used for the record's links.
+    fn loose_field(&self, at: usize, links: &mut Vec<FieldLink>) -> Result<Option<u32>, AllocError>
         requires sound { IsSound self.now }
         requires kept { IsKept self.now at }
-        ensures { result ≡ position (is_loose (frame_of self.now)) (values_of self.now.order self.now.dictionary (structure_at self.now.order self.now.file.items at)) }
+        ensures { IfOk result (λ found. found ≡ loose_field (frame_of self.now) (field_links 0 (values_of self.now.order self.now.dictionary (structure_at self.now.order self.now.file.items at)))) }
     {
         let record = placed_at(self.order, self.file.as_slice(), at);
-        let plan = self.plans.plan(record.class)?;
-        let body = record.body(self.file.as_slice());
-        let mut links = 0;
-        for (i, field) in plan.fields().iter().enumerate() {
-            if is_link(field) {
-                if self.is_loose(link_at(plan, self.order, body, links)) {
-                    return Some(i as u32);
-                }
-                links += 1;
-            }
-        }
-        None
+        let Some(plan) = self.plans.plan(record.class) else {
+            return Ok(None);
+        };
+        links.clear();
+        push_links(plan, self.order, record.body(self.file.as_slice()), links)?;
+        Ok(self.loose_among(links.as_slice()))
+    }
+
+    /// The field of the first such link of these.
+    fn loose_among(&self, links: &[FieldLink]) -> Option<u32>
+        requires { IsSound self.now }
+        ensures { result ≡ loose_field (frame_of self.now) links.now }
+    {
+        let loose = links.iter().find(|found| self.is_loose(found.link));
+        loose.map(|found| found.field)
     }
 
     fn is_loose(&self, link: Link) -> bool
         requires { IsSound self.now }
-        ensures { result ≡ is_loose (frame_of self.now) (value.Link link) }
+        ensures { result ≡ is_loose (frame_of self.now) link }
     {
         link.class != 0 && !self.has_target(link)
     }
-}
-
-fn is_link(field: &Field) -> bool
-    ensures { result ≡ is_link field.now }
-{
-    matches!(field.form, Form::Link)
 }

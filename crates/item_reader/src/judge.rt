@@ -13,14 +13,15 @@ ghost use Rattle.item_reader.specs.Steps.{reason_of};
 ghost use Rattle.item_reader.specs.Reached.{IsSound, here_of, frame_of};
 ghost use Rattle.item_reader.specs.Judged.{IsHere, kind_here, first_here, ReadsHere, is_read_kind, body_reasons, reading_reasons, weighing_reasons, place_reasons, record_reasons, frame_end_reasons, table_reasons, count_reasons, closing_reasons, IsReadBy, IsRead, IsWeighed};
 
-use crate::closing::{BYTES, FRAMES, TABLE, closes, first_named};
+use crate::closing::{BYTES, FRAMES, TABLE, closes};
 use crate::fault::Fault;
 use crate::kind::Kind;
 use crate::reached::Reached;
 use crate::reason::Reason;
 use crate::structure::{FILE_LIMIT, Placed, RECORD_LIMIT};
-use dictionary::Element;
+use dictionary::{Element, first_named};
 use layout_plan::{BodyFault, BodyReason, Measured, Plan, measure, num_at};
+use std::alloc::{AllocError, Global};
 use type_text::Link;
 
 /// The most frames of a file.
@@ -79,26 +80,30 @@ impl Reached {
     }
 
     /// Why the frame may not end here.
-    pub fn frame_end_fault(&self, placed: Placed) -> Option<Fault>
+    pub fn frame_end_fault(
+        &self,
+        alloc: Global,
+        placed: Placed,
+    ) -> Result<Option<Fault>, AllocError>
         requires sound { IsSound self.now }
         requires here { IsHere self.now placed }
         requires kind { kind_here self.now ≡ variant.FrEndOfFrame }
-        ensures { result ≡ first_here frame_end_reasons self.now }
+        ensures { IfOk result (λ fault. fault ≡ first_here frame_end_reasons self.now) }
     {
         if !self.has_header() {
-            return Some(self.fault(Reason::NoFrameH));
+            return Ok(Some(self.fault(Reason::NoFrameH)));
         }
-        if let Some((at, field)) = self.first_loose() {
-            return Some(Fault {
+        if let Some((at, field)) = self.first_loose(alloc)? {
+            return Ok(Some(Fault {
                 at: at as u64,
                 field,
                 reason: Reason::LooseLink,
-            });
+            }));
         }
         if let Some(fault) = self.place_fault(placed) {
-            return Some(fault);
+            return Ok(Some(fault));
         }
-        (self.frames >= FRAMES_LIMIT).then_some(self.fault(Reason::FramesLimit))
+        Ok((self.frames >= FRAMES_LIMIT).then_some(self.fault(Reason::FramesLimit)))
     }
 
     /// Why a contents table may not stand here.

@@ -56,7 +56,7 @@ impl Reached {
             Kind::FrSE => Err(self.stray_fault(placed).into()),
             Kind::FrTOC => self.take_table(placed),
             Kind::FrEndOfFile => self.take_file_end(placed),
-            Kind::FrEndOfFrame => self.take_frame_end(placed),
+            Kind::FrEndOfFrame => self.take_frame_end(alloc, placed),
             kind => self.take_record(placed, kind),
         }
     }
@@ -184,7 +184,7 @@ impl Reached {
         })
     }
 
-    fn take_frame_end(&mut self, placed: Placed) -> Result<Item, ReadError>
+    fn take_frame_end(&mut self, alloc: Global, placed: Placed) -> Result<Item, ReadError>
         requires sound { IsSound self.old }
         requires open { self.old.closed ≡ false }
         requires here { IsHere self.old placed }
@@ -194,7 +194,7 @@ impl Reached {
         ensures order { self.new.order ≡ self.old.order }
     {
         self.weigh(placed)?;
-        if let Some(fault) = self.frame_end_fault(placed) {
+        if let Some(fault) = self.frame_end_fault(alloc, placed)? {
             return Err(fault.into());
         }
         self.frame.clear();

@@ -1,7 +1,19 @@
-use Rattle.std.proofs.Common.{◌≡◌, sym}
+use Rattle.std.proofs.Common.{◌≡◌, refl, sym}
 use Rattle.type_text.specs.TypeText.{type_of}
+use Rattle.layout_plan.specs.declared.fields.Form.TheVariants.{Text}
+use Rattle.layout_plan.specs.BuiltIn.{element_fields}
+use Rattle.item_reader.proofs.Bodies.{single-field}
 use Rattle.item_reader.proofs.Describing.{element-told}
 use Rattle.item_reader.proofs.described.BuiltIn.element_at.Goals as goal
+
+pub text_at-requires-clause-text : goal.text_at-requires-clause-text
+text_at-requires-clause-text c = single-field c.args.self.now.element element_fields 0 Text c.requires.plan refl
+
+pub text_at-requires-2-clause-text : goal.text_at-requires-2-clause-text
+text_at-requires-2-clause-text c = single-field c.args.self.now.element element_fields 1 Text c.requires.plan refl
+
+pub text_at-requires-3-clause-text : goal.text_at-requires-3-clause-text
+text_at-requires-3-clause-text c = single-field c.args.self.now.element element_fields 2 Text c.requires.plan refl
 
 pub returns : goal.returns
 returns c =

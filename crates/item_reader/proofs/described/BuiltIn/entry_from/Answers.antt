@@ -1,9 +1,25 @@
-use Rattle.std.proofs.Common.{ap, subst, arith}
+use Rattle.std.proofs.Common.{refl, ap, subst, arith}
+use Rattle.scalar_types.specs.declared.Width.TheVariants.{Two}
+use Rattle.layout_plan.specs.declared.fields.Form.TheVariants.{Number, Text}
+use Rattle.layout_plan.specs.BuiltIn.{structure_fields}
 use Rattle.layout_plan.specs.Lent.{HasTextAt}
 use Rattle.item_reader.specs.declared.described.BuiltIn.{BuiltIn}
 use Rattle.item_reader.specs.Steps.{body_of}
+use Rattle.item_reader.proofs.Bodies.{single-field}
 use Rattle.item_reader.proofs.Describing.{class-fits, entry-told}
 use Rattle.item_reader.proofs.described.BuiltIn.entry_from.Goals as goal
+
+pub text_at-requires-clause-text : goal.text_at-requires-clause-text
+text_at-requires-clause-text c =
+    single-field c.args.self.now.structure structure_fields 0 Text (ap (λ (plans : BuiltIn). plans.structure) c.requires.plans) refl
+
+pub num_at-class-requires-clause-number : goal.num_at-class-requires-clause-number
+num_at-class-requires-clause-number c =
+    (Two, single-field c.args.self.now.structure structure_fields 1 (Number Two) (ap (λ (plans : BuiltIn). plans.structure) c.requires.plans) refl)
+
+pub text_at-requires-2-clause-text : goal.text_at-requires-2-clause-text
+text_at-requires-2-clause-text c =
+    single-field c.args.self.now.structure structure_fields 2 Text (ap (λ (plans : BuiltIn). plans.structure) c.requires.plans) refl
 
 pub overflow_cast-class : goal.overflow_cast-class
 overflow_cast-class c =

@@ -25,11 +25,12 @@ returns-in-Some-clause-answers c =
     (fault-kind r p c.requires.open c.requires.here
     ∙ frame_end-parts (here_of r) (fits-here r p c.requires.here) c.requires.kind
     ∙ first_of-back weighing_reasons frame_end_reasons (here_of r) c.in_ok-weigh.ensures.ok.none
-    ∙ sym c.in-Some.ensures)
+    ∙ sym c.in_ok-fault.ensures
+    ∙ c.in-Some.is)
 
 pub returns-clause-answers : goal.returns-clause-answers
 returns-clause-answers c =
     let r = c.args.self.now in
-    let none : first_here frame_end_reasons r ≡ None = sym c.frame_end_fault.ensures ∙ c.in_default.is in
+    let none : first_here frame_end_reasons r ≡ None = sym c.in_ok-fault.ensures ∙ c.in_default.is in
     let cleared : Reached = record r { frame = c.clear.new.self } in
     takes-frame_end r c.args.placed c.in_ok-weigh.field-0 cleared c.requires.sound c.requires.open c.requires.here c.requires.kind c.in_ok-weigh.ensures.ok none c.clear.ensures.items

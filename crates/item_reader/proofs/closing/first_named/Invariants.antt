@@ -1,7 +1,0 @@
-use Rattle.std.proofs.Common.{◌≡◌, drop}
-use Rattle.layout_plan.specs.Layout.{first_named}
-use Rattle.item_reader.proofs.closing.first_named.Given as goal
-
-abbrev pub invariant-loop-i : goal.invariant-loop-i
-invariant-loop-i l =
-    first_named l.i (drop l.i l.elements) l.name ≡ first_named 0 l.elements l.name
