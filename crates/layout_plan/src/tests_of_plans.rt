@@ -53,7 +53,7 @@ const BY_LIST: Answers = Some((
 
 const NO_TYPE: [(&str, &str); 1] = [("a", "INT_3U")];
 
-const SIGNED_COUNTER: [(&str, &str); 2] = [("n", "INT_1S"), ("v", "CHAR[n]")];
+const CHAR_COUNTER: [(&str, &str); 2] = [("n", "CHAR"), ("v", "CHAR[n]")];
 
 /// A class and the elements of the entry that is learnt, and then the answers of the classes 3 and 4.
 type Step = (
@@ -69,8 +69,8 @@ const STEPS: [Step; 7] = [
     (4, &LIST, BY_NUMBER, BY_LIST),
     (3, &TEXT_AND_LINK, BY_TEXT_AND_LINK, BY_LIST),
     (3, &NO_TYPE, BY_TEXT_AND_LINK, BY_LIST),
-    (3, &SIGNED_COUNTER, BY_TEXT_AND_LINK, BY_LIST),
-    (4, &SIGNED_COUNTER, BY_TEXT_AND_LINK, BY_LIST),
+    (3, &CHAR_COUNTER, BY_TEXT_AND_LINK, BY_LIST),
+    (4, &CHAR_COUNTER, BY_TEXT_AND_LINK, BY_LIST),
 ];
 
 /// Whether the entry of these elements is one that may be learnt, and `learn` answers Ok.
