@@ -24,7 +24,8 @@ type-same (Some x) None h = absurd h
 type-same (Some x) (Some y) h = ap Some (ElementType-same x y h)
 
 -- equal parts make equal pairs
-pub entries-same : {A : Type 0} (C : ℕ → ℕ → Type 0) (D : A → A → Type 0) → ((k j : ℕ) → C k j → j ≡ k) → ((x y : A) → D x y → y ≡ x) → (es fs : List (ℕ × A)) → AllZip (λ p q. C p.0 q.0 × D p.1 q.1) es fs → fs ≡ es
+pub entries-same : {A : Type 0} (C : ℕ → ℕ → Type 0) (D : A → A → Type 0) → ((k j : ℕ) → C k j → j ≡ k)
+    → ((x y : A) → D x y → y ≡ x) → (es fs : List (ℕ × A)) → AllZip (λ p q. C p.0 q.0 × D p.1 q.1) es fs → fs ≡ es
 entries-same C D keys values [] [] all = refl
 entries-same C D keys values [] (q ∷ fs) all = absurd all
 entries-same C D keys values (p ∷ es) [] all = absurd all
@@ -35,7 +36,10 @@ entries-same C D keys values (p ∷ es) (q ∷ fs) all =
     λ i. (key i, value i) ∷ rest i
 
 -- keys of equal bytes lead to equal numbers
-pub lookup-same : {K : Type 0} (C : K → K → Type 0) (D : ℕ → ℕ → Type 0) (bytes : K → List ℕ) → ((k j : K) → C k j → bytes j ≡ bytes k) → ((x y : ℕ) → D x y → y ≡ x) → (name : List ℕ) (es fs : List (K × ℕ)) → AllZip (λ p q. C p.0 q.0 × D p.1 q.1) es fs → lookup (λ k. bytes_eq name (bytes k)) fs ≡ lookup (λ k. bytes_eq name (bytes k)) es
+pub lookup-same : {K : Type 0} (C : K → K → Type 0) (D : ℕ → ℕ → Type 0) (bytes : K → List ℕ)
+    → ((k j : K) → C k j → bytes j ≡ bytes k) → ((x y : ℕ) → D x y → y ≡ x) → (name : List ℕ) (es fs : List (K × ℕ))
+    → AllZip (λ p q. C p.0 q.0 × D p.1 q.1) es fs
+    → lookup (λ k. bytes_eq name (bytes k)) fs ≡ lookup (λ k. bytes_eq name (bytes k)) es
 lookup-same C D bytes keys values name [] [] all = refl
 lookup-same C D bytes keys values name [] (q ∷ fs) all = absurd all
 lookup-same C D bytes keys values name (p ∷ es) [] all = absurd all

@@ -1,12 +1,14 @@
 -- An entry is refused as Redefined exactly where it redefines its class.
-use Rattle.std.proofs.Common.{◌≡◌, ◌↔◌, ℕ, ◌≤◌, Bool, true, false, cond, eqb, List, [], ◌∷◌, ◌++◌, Option, Some, None, IsSomeAnd, is_some, Result, Ok, Err, refl, sym, ◌∙◌, ap, subst, arith}
+use Rattle.std.proofs.Common.{◌≡◌, ◌↔◌, ℕ, ◌≤◌, Bool, true, false, cond, eqb, List, [], ◌∷◌, ◌++◌, Option, Some, None}
+use Rattle.std.proofs.Common.{IsSomeAnd, is_some, Result, Ok, Err, refl, sym, ◌∙◌, ap, subst, arith}
 use Rattle.std.proofs.lemmas.Bool.{true≢false, eqb-true}
 use Rattle.std.proofs.lemmas.Bool.Decides.{nat_tests}
 use Rattle.dictionary.specs.declared.entries.Entry.{Entry}
 use Rattle.dictionary.specs.declared.held.AddFault.{AddFault}
 use Rattle.dictionary.specs.declared.held.AddFault.TheVariants.{ClassRange, Redefined, NameTwice, ElementLimit}
 use Rattle.dictionary.specs.Same.{IsSameEntry, same_entries}
-use Rattle.dictionary.specs.Dictionary.{entry_of, class_named, is_built_in, is_out_of_range, is_too_long, step, step_by, step_new, step_held, IsRedefined, IsDictionary}
+use Rattle.dictionary.specs.Dictionary.{entry_of, class_named, is_built_in, is_out_of_range, is_too_long, step, step_by}
+use Rattle.dictionary.specs.Dictionary.{step_new, step_held, IsRedefined, IsDictionary}
 use Rattle.dictionary.proofs.SameLemmas.{entries-Decides}
 
 -- Redefined is no answer of a step
@@ -22,13 +24,16 @@ on_length held e = either (is_too_long e) (Err ElementLimit) (Ok held) (λ h. cc
 
 on_new : (held : List Entry) (e : Entry) → Other (step_new held e)
 on_new held e =
-    either (is_some (class_named held e.name)) (Err NameTwice) (cond (is_too_long e) (Err ElementLimit) (Ok (held ++ e ∷ []))) (λ h. cc) (either (is_too_long e) (Err ElementLimit) (Ok (held ++ e ∷ [])) (λ h. cc) (λ h. cc))
+    either (is_some (class_named held e.name)) (Err NameTwice)
+    (cond (is_too_long e) (Err ElementLimit) (Ok (held ++ e ∷ []))) (λ h. cc)
+    (either (is_too_long e) (Err ElementLimit) (Ok (held ++ e ∷ [])) (λ h. cc) (λ h. cc))
 
 -- an entry beside the one held of its class
 beside : (held : List Entry) (old e : Entry) → (step_held held old e ≡ Err Redefined) ↔ (IsSameEntry old e → ⊥)
 beside held old e = by (same_entries old e) (entries-Decides old e)
   where
-    by : (b : Bool) → (b ≡ true → IsSameEntry old e) × (IsSameEntry old e → b ≡ true) → (cond b (Ok held) (Err Redefined) ≡ Err Redefined) ↔ (IsSameEntry old e → ⊥)
+    by : (b : Bool) → (b ≡ true → IsSameEntry old e) × (IsSameEntry old e → b ≡ true)
+        → (cond b (Ok held) (Err Redefined) ≡ Err Redefined) ↔ (IsSameEntry old e → ⊥)
     by true decides = (λ h. cc, λ other. absurd (other (decides.0 refl)))
     by false decides = (λ h same. true≢false (sym (decides.1 same)), λ other. refl)
 
@@ -36,7 +41,9 @@ step-redefined : (held : List Entry) (e : Entry) → step held e ≡ Err Redefin
 unfolding step
 step-redefined held e = by (is_built_in e.class) (is_out_of_range e.class) (entry_of held e.class)
   where
-    by : (built_in out : Bool) (o : Option Entry) → cond built_in (cond (is_too_long e) (Err ElementLimit) (Ok held)) (cond out (Err ClassRange) (step_by o held e)) ≡ Err Redefined → IsSomeAnd o (λ old. IsSameEntry old e → ⊥)
+    by : (built_in out : Bool) (o : Option Entry)
+        → cond built_in (cond (is_too_long e) (Err ElementLimit) (Ok held)) (cond out (Err ClassRange) (step_by o held e))
+        ≡ Err Redefined → IsSomeAnd o (λ old. IsSameEntry old e → ⊥)
     by true out o h = absurd (on_length held e h)
     by false true o h = cc
     by false false None h = absurd (on_new held e h)
@@ -47,8 +54,10 @@ held-class : (held : List Entry) (class : ℕ) (old : Entry) → entry_of held c
 held-class [] class old h = cc
 held-class (x ∷ held) class old h = by (eqb class x.class) refl h (held-class held class old)
   where
-    by : (b : Bool) → eqb class x.class ≡ b → cond b (Some x) (entry_of held class) ≡ Some old → (entry_of held class ≡ Some old → class ≡ old.class) → class ≡ old.class
-    by true is h rest = let same : x ≡ old = cc in subst (λ (x : Entry). class ≡ x.class) same (eqb-true class x.class is)
+    by : (b : Bool) → eqb class x.class ≡ b → cond b (Some x) (entry_of held class) ≡ Some old
+        → (entry_of held class ≡ Some old → class ≡ old.class) → class ≡ old.class
+    by true is h rest = let same : x ≡ old = cc in
+        subst (λ (x : Entry). class ≡ x.class) same (eqb-true class x.class is)
     by false is h rest = rest h
 
 described : (class : ℕ) → 3 ≤ class → class ≤ 255 → (is_built_in class ≡ false) × (is_out_of_range class ≡ false)
@@ -58,7 +67,9 @@ redefined-step : (held : List Entry) (e : Entry) → IsDictionary held → IsRed
 unfolding step
 redefined-step held e sound = by (entry_of held e.class) refl
   where
-    by : (o : Option Entry) → entry_of held e.class ≡ o → IsSomeAnd o (λ old. IsSameEntry old e → ⊥) → cond (is_built_in e.class) (cond (is_too_long e) (Err ElementLimit) (Ok held)) (cond (is_out_of_range e.class) (Err ClassRange) (step_by o held e)) ≡ Err Redefined
+    by : (o : Option Entry) → entry_of held e.class ≡ o → IsSomeAnd o (λ old. IsSameEntry old e → ⊥)
+        → cond (is_built_in e.class) (cond (is_too_long e) (Err ElementLimit) (Ok held))
+        (cond (is_out_of_range e.class) (Err ClassRange) (step_by o held e)) ≡ Err Redefined
     by None is other = absurd other
     by (Some old) is other =
         let there = sound.entries e.class old is in
@@ -67,10 +78,16 @@ redefined-step held e sound = by (entry_of held e.class) refl
         rw (tests.0, tests.1) ((beside held old e).1 other)
 
 -- the refusal, and what else a step may give
-pub refused-redefined : {A : Type 0} (held : List Entry) (e : Entry) (fault : AddFault) → IsDictionary held → step held e ≡ Err fault → (◌≡◌ {A = Result A AddFault} (Err fault) (Err Redefined)) ↔ IsRedefined held e
-refused-redefined held e fault sound is =
-    (λ h. let same : fault ≡ Redefined = cc in step-redefined held e (is ∙ ap Err same), λ redefined. let again = redefined-step held e sound redefined in let same : fault ≡ Redefined = cc in ap Err same)
+pub refused-redefined : {A : Type 0} (held : List Entry) (e : Entry) (fault : AddFault) → IsDictionary held
+    → step held e ≡ Err fault → (◌≡◌ {A = Result A AddFault} (Err fault) (Err Redefined)) ↔ IsRedefined held e
+refused-redefined held e fault sound is = (
+  λ h. let same : fault ≡ Redefined = cc in
+      step-redefined held e (is ∙ ap Err same),
+  λ redefined. let again = redefined-step held e sound redefined in
+      let same : fault ≡ Redefined = cc in ap Err same,
+)
 
-pub accepted-redefined : {A : Type 0} (held next : List Entry) (e : Entry) (x : A) → IsDictionary held → step held e ≡ Ok next → (◌≡◌ {A = Result A AddFault} (Ok x) (Err Redefined)) ↔ IsRedefined held e
+pub accepted-redefined : {A : Type 0} (held next : List Entry) (e : Entry) (x : A) → IsDictionary held
+    → step held e ≡ Ok next → (◌≡◌ {A = Result A AddFault} (Ok x) (Err Redefined)) ↔ IsRedefined held e
 accepted-redefined held next e x sound is =
     (λ h. cc, λ redefined. let again = redefined-step held e sound redefined in cc)

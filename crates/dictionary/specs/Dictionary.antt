@@ -1,5 +1,6 @@
 -- The dictionary is the list of the entries held, in the order of their addition: a map from class to entry.
-use Rattle.std.specs.Prelude.{◌≡◌, ℕ, ◌≤◌, Bool, ◌==◌, ◌||◌, nat_lt, if◌then◌else◌, List, [], ◌∷◌, ◌++◌, length, find, IsSomeAnd, Option, Some, None, is_some, Result, Ok, Err}
+use Rattle.std.specs.Prelude.{◌≡◌, ℕ, ◌≤◌, Bool, ◌==◌, ◌||◌, nat_lt, if◌then◌else◌, List, [], ◌∷◌, ◌++◌, length, find}
+use Rattle.std.specs.Prelude.{IsSomeAnd, Option, Some, None, is_some, Result, Ok, Err}
 use Rattle.std.specs.Option.{option_map}
 use Rattle.std.specs.Str.{bytes_eq}
 use Rattle.dictionary.specs.declared.entries.Entry.{Entry}
@@ -30,7 +31,8 @@ is_too_long e = nat_lt 4096 (length e.elements)
 -- the dictionary after an entry of a class that is not held
 abbrev pub step_new : List Entry → Entry → Result (List Entry) AddFault
 step_new held e =
-    if is_some (class_named held e.name) then Err NameTwice else (if is_too_long e then Err ElementLimit else Ok (held ++ e ∷ []))
+    if is_some (class_named held e.name) then Err NameTwice
+    else (if is_too_long e then Err ElementLimit else Ok (held ++ e ∷ []))
 
 -- and after one of a class that is
 abbrev pub step_held : List Entry → Entry → Entry → Result (List Entry) AddFault
@@ -43,13 +45,15 @@ step_by (Some old) held e = step_held held old e
 -- The dictionary after the entry, or why it is refused: the first refusal in this order.
 unfoldable pub step : List Entry → Entry → Result (List Entry) AddFault
 step held e =
-    if is_built_in e.class then (if is_too_long e then Err ElementLimit else Ok held) else (if is_out_of_range e.class then Err ClassRange else step_by (entry_of held e.class) held e)
+    if is_built_in e.class then (if is_too_long e then Err ElementLimit else Ok held)
+    else (if is_out_of_range e.class then Err ClassRange else step_by (entry_of held e.class) held e)
 
 -- An entry redefines its class where an entry of the class is held, and that one is not the same.
 abbrev pub IsRedefined : List Entry → Entry → Type 0
 IsRedefined held e = IsSomeAnd (entry_of held e.class) (λ old. ¬ IsSameEntry old e)
 
--- What an entry that is held has: a class of 3 to 255, types as its texts read, at most 4,096 elements, and a name that is of its class alone.
+-- What an entry that is held has: a class of 3 to 255, types as its texts read, at most 4,096 elements, and a name that
+-- is of its class alone.
 pub record IsHeld (held : List Entry) (e : Entry) : Type 0 where
   pub low : 3 ≤ e.class
   pub high : e.class ≤ 255
@@ -60,4 +64,5 @@ pub record IsHeld (held : List Entry) (e : Entry) : Type 0 where
 -- Each class that is held has such an entry, and each name that is held is that of its class's entry.
 pub record IsDictionary (held : List Entry) : Type 0 where
   pub entries : (class : ℕ) (e : Entry) → entry_of held class ≡ Some e → IsHeld held e
-  pub names : (name : List ℕ) (class : ℕ) → class_named held name ≡ Some class → IsSomeAnd (entry_of held class) (λ e. e.name ≡ name)
+  pub names : (name : List ℕ) (class : ℕ) → class_named held name ≡ Some class
+      → IsSomeAnd (entry_of held class) (λ e. e.name ≡ name)

@@ -1,4 +1,5 @@
--- Entries that describe the same structure. The Common Data Frame Format (LIGO-T970130 v8) describes a structure by an FrSH and its FrSEs; which of two are the same is this project's own rule.
+-- Entries that describe the same structure. The Common Data Frame Format (LIGO-T970130 v8) describes a structure by an
+-- FrSH and its FrSEs; which of two are the same is this project's own rule.
 use Rattle.std.specs.Prelude.{◌≡◌, ℕ, Bool, false, ◌==◌, ◌&&◌, List, map, All, Option, Some, None}
 use Rattle.std.specs.Str.{bytes_eq}
 use Rattle.std.specs.Cmp.Lexicographic.{pointwise}
@@ -32,7 +33,8 @@ meaning_of text = meaning_by (type_of text) text
 abbrev pub column_of : Element → List ℕ × Meaning
 column_of e = (e.name, meaning_of e.text)
 
--- Entries are the same where they have the same class, structure name, element names in order and meanings of texts. Comments do not count.
+-- Entries are the same where they have the same class, structure name, element names in order and meanings of texts.
+-- Comments do not count.
 pub record IsSameEntry (a b : Entry) : Type 0 where
   pub class : a.class ≡ b.class
   pub name : a.name ≡ b.name

@@ -1,12 +1,15 @@
 -- A header is read as a byte order exactly where it is a header in that order.
-use Rattle.std.proofs.Common.{◌≡◌, ℕ, zero, suc, ◌↔◌, Bool, true, false, not, List, [], ◌∷◌, length, drop, slice_range, Option, Some, None, Result, Ok, All, find, IsTrue, cond, refl, sym, ap, ◌∙◌, arith, eqb-true, subst, lit<, ◌≤◌}
+use Rattle.std.proofs.Common.{◌≡◌, ℕ, zero, suc, ◌↔◌, Bool, true, false, not, List, [], ◌∷◌, length, drop, slice_range}
+use Rattle.std.proofs.Common.{Option, Some, None, Result, Ok, All, find, IsTrue, cond, refl, sym, ap, ◌∙◌, arith}
+use Rattle.std.proofs.Common.{eqb-true, subst, lit<, ◌≤◌}
 use Rattle.std.proofs.lemmas.Bool.{cond_both}
 use Rattle.std.proofs.lemmas.List.{length-take-le, length-drop}
 use Rattle.scalar_types.specs.declared.Order.{Order}
 use Rattle.scalar_types.specs.declared.Order.TheVariants.{Big, Little}
 use Rattle.scalar_types.specs.Number.{big_number, little_number}
 use Rattle.frame_head.specs.declared.header.HeadFault.{HeadFault}
-use Rattle.frame_head.specs.Header.{Part, Number, parts, is_right, order_of, answer_of, first_wrong, header_of, IsHeader}
+use Rattle.frame_head.specs.Header.{Part, Number, parts, is_right, order_of, answer_of, first_wrong, header_of}
+use Rattle.frame_head.specs.Header.{IsHeader}
 
 -- where each item passes, none fails first
 find_none : {X : Type 0} (p : X → Bool) (xs : List X) → All (λ x. IsTrue (p x)) xs → find (λ x. not (p x)) xs ≡ None
@@ -17,7 +20,8 @@ find_none p (x ∷ xs) passes =
     rw (first, rest) refl
 
 -- where none fails first, the first one passes
-first_passes : {X : Type 0} (b : Bool) (x : X) (rest : Option X) → cond (not b) (Some x) rest ≡ None → (b ≡ true) × (rest ≡ None)
+first_passes : {X : Type 0} (b : Bool) (x : X) (rest : Option X) → cond (not b) (Some x) rest ≡ None → (b ≡ true)
+    × (rest ≡ None)
 first_passes true x rest none = (refl, none)
 first_passes false x rest none = cc
 
@@ -47,12 +51,14 @@ order_of-right Little header size right =
     (λ no. refl)
 
 -- what an answer shows of what it was made from
-answered : (known order : Order) (wrong : Option Part) → answer_of known wrong ≡ Ok order → (wrong ≡ None) × (known ≡ order)
+answered : (known order : Order) (wrong : Option Part) → answer_of known wrong ≡ Ok order → (wrong ≡ None)
+    × (known ≡ order)
 answered known order None e = (refl, cc)
 answered known order (Some part) e = cc
 
 -- a header is read as a byte order exactly where it is a header in that order
-pub accepted : (header : List ℕ) → length header ≡ 40 → (order : Order) → (header_of header ≡ Ok order) ↔ IsHeader order header
+pub accepted : (header : List ℕ) → length header ≡ 40 → (order : Order) → (header_of header ≡ Ok order)
+    ↔ IsHeader order header
 accepted header size order = (
   (λ e.
       let parted = answered (order_of header) order (first_wrong (order_of header) header) e in

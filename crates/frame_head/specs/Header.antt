@@ -1,5 +1,6 @@
 -- The file header (LIGO-T970130 v8, file header), as its table lists it.
-use Rattle.std.specs.Prelude.{◌==◌, ℕ, ◌+◌, All, find, Bool, not, if◌then◌else◌, IsTrue, List, [], ◌∷◌, ◌++◌, drop, slice_range, nat_eq, codes, Option, Some, None, Result, Ok, Err}
+use Rattle.std.specs.Prelude.{◌==◌, ℕ, ◌+◌, All, find, Bool, not, if◌then◌else◌, IsTrue, List, [], ◌∷◌, ◌++◌, drop}
+use Rattle.std.specs.Prelude.{slice_range, nat_eq, codes, Option, Some, None, Result, Ok, Err}
 use Rattle.std.specs.List.{starts_with}
 use Rattle.scalar_types.specs.declared.Order.{Order}
 use Rattle.scalar_types.specs.declared.Order.TheVariants.{Big, Little}

@@ -1,7 +1,8 @@
 -- How a check goes on through a file, and what it finds.
 use Rattle.std.proofs.Common.{◌≡◌, ℕ, ◌+◌, List, [], ◌∷◌, ◌++◌, Option, Some, None, refl, ap, ◌∙◌}
 use Rattle.std.specs.Option.{option_map}
-use Rattle.frame_outside.specs.Shelf.{Outside, Reading, Source, Files, Opens, reading_at, passed, beginning, beginning_of}
+use Rattle.frame_outside.specs.Shelf.{Outside, Reading, Source, Files, Opens, reading_at, passed, beginning}
+use Rattle.frame_outside.specs.Shelf.{beginning_of}
 use Rattle.frame_outside.specs.SlotReader.{Draws}
 use Rattle.frame_outside.proofs.Slots.{reading_at-pass, reading_at-given}
 use Rattle.frame_outside.proofs.Reading.{passes_none, passes_more}
@@ -16,11 +17,13 @@ pub draws_none : (outside : Outside) (slot : ℕ) → Draws outside outside slot
 draws_none outside slot = record { drawn = 0; passes = passes_none outside slot }
 
 -- two draws are one
-pub draws_more : (first middle last : Outside) (slot : ℕ) → Draws first middle slot → Draws middle last slot → Draws first last slot
+pub draws_more : (first middle last : Outside) (slot : ℕ) → Draws first middle slot → Draws middle last slot
+    → Draws first last slot
 draws_more first middle last slot p q =
     record { drawn = p.drawn + q.drawn; passes = passes_more first middle last slot p.drawn q.drawn p.passes q.passes }
 
-opened-passed : (n : ℕ) (told : Option Reading) → option_map (λ reading. reading.opened) (option_map (passed n) told) ≡ option_map (λ reading. reading.opened) told
+opened-passed : (n : ℕ) (told : Option Reading)
+    → option_map (λ reading. reading.opened) (option_map (passed n) told) ≡ option_map (λ reading. reading.opened) told
 opened-passed n None = refl
 opened-passed n (Some reading) = refl
 
@@ -32,7 +35,8 @@ file_of-drawn old new slot draws =
     ∙ opened-passed draws.drawn (reading_at old.slots slot)
 
 -- a slot that was opened is that of the file of the name
-pub file_of-opened : (old new : Outside) (name : List ℕ) (slot : ℕ) → Opens old new name slot → (files : Files) (file : List ℕ) → old.files ≡ Some files → files name ≡ Some file → file_of new slot ≡ Some file
+pub file_of-opened : (old new : Outside) (name : List ℕ) (slot : ℕ) → Opens old new name slot
+    → (files : Files) (file : List ℕ) → old.files ≡ Some files → files name ≡ Some file → file_of new slot ≡ Some file
 file_of-opened old new name slot opens files file told held =
     let opened : Option Reading → Option (List ℕ) = λ told. option_map (λ reading. reading.opened) told in
     ap (λ slots. opened (reading_at slots slot)) opens.slots
@@ -42,7 +46,8 @@ file_of-opened old new name slot opens files file told held =
     ∙ ap (λ held. opened (option_map beginning held)) held
 
 -- an item that is no end of the file, as code finds it
-pub goes_on : (item : Item) → ((at class length seek : ℕ) → item ≡ given.FileEnd at class length seek → ⊥) → IsFileEnd item → ⊥
+pub goes_on : (item : Item) → ((at class length seek : ℕ) → item ≡ given.FileEnd at class length seek → ⊥)
+    → IsFileEnd item → ⊥
 goes_on (given.Entry at class changed) other end = absurd end
 goes_on (given.Plain at class instance node) other end = absurd end
 goes_on (given.FrameEnd at class) other end = absurd end
@@ -50,5 +55,6 @@ goes_on (given.Table at class length) other end = absurd end
 goes_on (given.FileEnd at class length seek) other end = other at class length seek refl
 
 -- what was found of a file whose end was given
-pub accepted : (file : List ℕ) (reader : Reader) → HasEnded file reader → IsFinding file (Accepted reader.order reader.before.frames reader.before.records reader.before.place)
+pub accepted : (file : List ℕ) (reader : Reader) → HasEnded file reader
+    → IsFinding file (Accepted reader.order reader.before.frames reader.before.records reader.before.place)
 accepted file reader (items, ended) = (items, reader.before, ended, refl, refl, ended.ends)

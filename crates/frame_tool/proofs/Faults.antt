@@ -1,5 +1,6 @@
 -- The fault of a rest of a file: which reasons hold there, and that the least of them is one.
-use Rattle.std.proofs.Common.{◌≡◌, ℕ, ◌+◌, ◌<◌, ◌≤◌, ◌⊎◌, inl, inr, List, ◌++◌, length, take, refl, subst, arith, length-append}
+use Rattle.std.proofs.Common.{◌≡◌, ℕ, ◌+◌, ◌<◌, ◌≤◌, ◌⊎◌, inl, inr, List, ◌++◌, length, take, refl, subst, arith}
+use Rattle.std.proofs.Common.{length-append}
 use Rattle.std.proofs.lemmas.List.{length-take-le}
 use Rattle.std.proofs.lemmas.Bool.{cases_lt}
 use Rattle.scalar_types.specs.declared.Order.{Order}
@@ -93,7 +94,8 @@ cut_head place left told some short = record {
 }
 
 -- what a cut structure shows where its head is whole
-pub cut_behind_head : (place left told : ℕ) → 14 ≤ left → Holds CutRecord place left told → (14 ≤ told) × (told ≤ record_limit) × (left < told)
+pub cut_behind_head : (place left told : ℕ) → 14 ≤ left → Holds CutRecord place left told → (14 ≤ told)
+    × (told ≤ record_limit) × (left < told)
 cut_behind_head place left told head (some, inl short) = absurd (omega arith)
 cut_behind_head place left told head (some, inr long) = long
 
@@ -120,14 +122,16 @@ large_length place left told head large = record {
 }
 
 -- the length is that of a structure, and fewer bytes are left
-pub cut_body : (place left told : ℕ) → 14 ≤ left → 14 ≤ told → told ≤ record_limit → left < told → IsLeast place left told CutRecord
+pub cut_body : (place left told : ℕ) → 14 ≤ left → 14 ≤ told → told ≤ record_limit → left < told
+    → IsLeast place left told CutRecord
 cut_body place left told head enough small long = record {
   holds = (omega arith, inr (enough, small, long));
   least = least_of 3 place left told (λ h. omega arith) (λ h. omega arith) (λ h. omega arith) (λ h. omega arith);
 }
 
 -- a structure of this length is there and ends beyond the bytes of any file
-pub far_end : (place left told : ℕ) → 14 ≤ told → told ≤ record_limit → told ≤ left → file_limit < place + told → IsLeast place left told FileLimit
+pub far_end : (place left told : ℕ) → 14 ≤ told → told ≤ record_limit → told ≤ left → file_limit < place + told
+    → IsLeast place left told FileLimit
 far_end place left told enough small whole far = record {
   holds = (omega arith, far);
   least = least_of 28 place left told
@@ -138,7 +142,8 @@ far_end place left told enough small whole far = record {
 }
 
 -- where bytes are left, a structure may stand or one of the reasons is the least
-pub judged : (place left told : ℕ) → 0 < left → Fits place left told ⊎ ((reason : Reason) × IsLeast place left told reason)
+pub judged : (place left told : ℕ) → 0 < left → Fits place left told
+    ⊎ ((reason : Reason) × IsLeast place left told reason)
 judged place left told some =
     elim (cases_lt left 14) [
       | inl short ↦ inr (CutRecord, cut_head place left told some short)
@@ -158,7 +163,8 @@ judged place left told some =
     ]
 
 -- where a structure may stand no reason holds
-pub structure-unheld : (order : Order) (place : ℕ) (structure others : List ℕ) (reason : Reason) → MayStand order place structure
+pub structure-unheld : (order : Order) (place : ℕ) (structure others : List ℕ) (reason : Reason)
+    → MayStand order place structure
     → Holds reason place (length (structure ++ others)) (common_of order (structure ++ others)).length → ⊥
 structure-unheld order place structure others reason may holds =
     let told : (common_of order (structure ++ others)).length ≡ length structure =
@@ -176,7 +182,8 @@ structure-unheld order place structure others reason may holds =
     holds
 
 -- the least of the reasons that hold of a rest is its fault
-pub fault_of_least : (order : Order) (place : ℕ) (rest : List ℕ) (told : ℕ) (reason : Reason) → told ≡ (common_of order rest).length
+pub fault_of_least : (order : Order) (place : ℕ) (rest : List ℕ) (told : ℕ) (reason : Reason)
+    → told ≡ (common_of order rest).length
     → IsLeast place (length rest) told reason → IsFault order place rest reason
 fault_of_least order place rest told reason tells least =
     let P : ℕ → Type 0 = λ n. IsLeast place (length rest) n reason in

@@ -10,7 +10,8 @@ use Rattle.frame_tool.specs.declared.outcome.Outcome.TheVariants.{Usage, Device}
 use Rattle.frame_tool.specs.declared.judgement.Finding.{Finding}
 use Rattle.frame_tool.specs.declared.judgement.Finding.TheVariants.{Accepted, Refused}
 use Rattle.frame_tool.specs.Check.{IsFinding}
-use Rattle.frame_tool.specs.Due.{Reply, reply_with, walk_reply, check_reply, IsFileDue, IsCommandDue, EachRunHasADueReply, NoRunHasTwoDueReplies}
+use Rattle.frame_tool.specs.Due.{Reply, reply_with, walk_reply, check_reply, IsFileDue, IsCommandDue}
+use Rattle.frame_tool.specs.Due.{EachRunHasADueReply, NoRunHasTwoDueReplies}
 use Rattle.frame_tool.specs.Words.{Form, WalkFile, CheckFile, command_of}
 use Rattle.frame_tool.proofs.OneVerdict.{a_verdict, no_two_verdicts}
 
@@ -23,7 +24,8 @@ abbrev pub NoneHasTwo : {A : Type 0} → (List ℕ → A → Type 0) → Type 0
 NoneHasTwo {A} is = (file : List ℕ) (a b : A) → is file a → is file b → a ≡ b
 
 -- a file has one finding
-finding_by : (file : List ℕ) → WellFormed file ⊎ ((fault : Fault) × IsFirstFault file fault) → (finding : Finding) × IsFinding file finding
+finding_by : (file : List ℕ) → WellFormed file ⊎ ((fault : Fault) × IsFirstFault file fault) → (finding : Finding)
+    × IsFinding file finding
 finding_by file (inl (order, items, last, is)) = (Accepted order _ _ _, (items, last, is, refl, refl, refl))
 finding_by file (inr (fault, is)) = (Refused fault, is)
 
@@ -31,22 +33,33 @@ a_finding : EachHas IsFinding
 a_finding file = finding_by file (each_judged file)
 
 pub no_two_findings : NoneHasTwo IsFinding
-no_two_findings file (Accepted order frames records bytes) (Accepted o f r b) (items, last, is, fs, rs, bs) (others, end, also, gs, ss, cs) =
+no_two_findings file (Accepted order frames records bytes) (Accepted o f r b) (items, last, is, fs, rs, bs) (
+  others,
+  end,
+  also,
+  gs,
+  ss,
+  cs,
+) =
     let same = items_unique file order o items others last end is also in
     let e : order ≡ o = same.0 in
     let l : last ≡ end = same.2 in
     cc
-no_two_findings file (Accepted order frames records bytes) (Refused fault) (items, last, is, fs, rs, bs) also = absurd (not_both file fault (order, items, last, is) also)
-no_two_findings file (Refused fault) (Accepted order frames records bytes) is (items, last, also, fs, rs, bs) = absurd (not_both file fault (order, items, last, also) is)
+no_two_findings file (Accepted order frames records bytes) (Refused fault) (items, last, is, fs, rs, bs) also =
+    absurd (not_both file fault (order, items, last, is) also)
+no_two_findings file (Refused fault) (Accepted order frames records bytes) is (items, last, also, fs, rs, bs) =
+    absurd (not_both file fault (order, items, last, also) is)
 no_two_findings file (Refused fault) (Refused other) is also = ap Refused (faults_unique file fault other is also)
 
-file_due : {A : Type 0} (is : List ℕ → A → Type 0) (reply_of : A → Reply) → EachHas is → (held : Option (List ℕ)) → (reply : Reply) × IsFileDue is reply_of held reply
+file_due : {A : Type 0} (is : List ℕ → A → Type 0) (reply_of : A → Reply) → EachHas is → (held : Option (List ℕ))
+    → (reply : Reply) × IsFileDue is reply_of held reply
 file_due is reply_of each None = (reply_with Device, refl)
 file_due is reply_of each (Some file) =
     let found = each file in
     (reply_of found.0, (found.0, found.1, refl))
 
-pub file_dues : {A : Type 0} (is : List ℕ → A → Type 0) (reply_of : A → Reply) → NoneHasTwo is → (held : Option (List ℕ)) (first second : Reply) →
+pub file_dues : {A : Type 0} (is : List ℕ → A → Type 0) (reply_of : A → Reply) → NoneHasTwo is
+    → (held : Option (List ℕ)) (first second : Reply) →
     IsFileDue is reply_of held first → IsFileDue is reply_of held second → first ≡ second
 file_dues is reply_of alone None first second left right = left ∙ sym right
 file_dues is reply_of alone (Some file) first second (a, holds, left) (b, also, right) =
@@ -60,8 +73,10 @@ command_due files (Some (CheckFile file)) = file_due _ check_reply a_finding (fi
 command_dues : (files : Files) (command : Option Form) (first second : Reply) → IsCommandDue files command first
     → IsCommandDue files command second → first ≡ second
 command_dues files None first second left right = left ∙ sym right
-command_dues files (Some (WalkFile file)) first second left right = file_dues _ walk_reply no_two_verdicts (files file) first second left right
-command_dues files (Some (CheckFile file)) first second left right = file_dues _ check_reply no_two_findings (files file) first second left right
+command_dues files (Some (WalkFile file)) first second left right =
+    file_dues _ walk_reply no_two_verdicts (files file) first second left right
+command_dues files (Some (CheckFile file)) first second left right =
+    file_dues _ check_reply no_two_findings (files file) first second left right
 
 pub a_due_reply : EachRunHasADueReply
 a_due_reply files words = command_due files (command_of words)

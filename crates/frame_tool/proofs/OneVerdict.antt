@@ -1,5 +1,6 @@
 -- Each file has one verdict.
-use Rattle.std.proofs.Common.{◌≡◌, ℕ, ◌+◌, ◌≤◌, inl, inr, List, [], ◌∷◌, ◌++◌, length, take, drop, Result, Ok, Err, refl, sym, ap, subst, ◌∙◌, arith}
+use Rattle.std.proofs.Common.{◌≡◌, ℕ, ◌+◌, ◌≤◌, inl, inr, List, [], ◌∷◌, ◌++◌, length, take, drop, Result, Ok, Err}
+use Rattle.std.proofs.Common.{refl, sym, ap, subst, ◌∙◌, arith}
 use Rattle.std.proofs.lemmas.Bool.{cases_lt}
 use Rattle.std.specs.List.{concat}
 use Rattle.scalar_types.specs.declared.Order.{Order}
@@ -10,7 +11,8 @@ use Rattle.item_reader.specs.declared.reason.Reason.{Reason}
 use Rattle.item_reader.specs.declared.reason.Reason.TheVariants.{CutHeader, BadHeader}
 use Rattle.frame_tool.specs.declared.verdict.Verdict.{Verdict}
 use Rattle.frame_tool.specs.declared.verdict.Verdict.TheVariants.{Sound, Wrong}
-use Rattle.frame_tool.specs.Walk.{StandFrom, IsFault, IsWalked, IsHeaderFault, IsStructureFault, IsSound, IsVerdict, EachFileHasAVerdict, NoFileHasTwoVerdicts}
+use Rattle.frame_tool.specs.Walk.{StandFrom, IsFault, IsWalked, IsHeaderFault, IsStructureFault, IsSound, IsVerdict}
+use Rattle.frame_tool.specs.Walk.{EachFileHasAVerdict, NoFileHasTwoVerdicts}
 use Rattle.frame_tool.proofs.Faults.{same_fault, none-unheld}
 use Rattle.frame_tool.proofs.Parting.{IsEnd, IsEnded, parted, same_parts}
 
@@ -21,13 +23,16 @@ record IsWalk (file : List ℕ) (order : Order) (structures : List (List ℕ)) (
   pub end : IsEnd order (40 + length (concat structures)) rest
 
 -- what two readings of one header show
-apart : (header : Result Order HeadFault) (order : Order) (fault : HeadFault) → header ≡ Ok order → header ≡ Err fault → ⊥
+apart : (header : Result Order HeadFault) (order : Order) (fault : HeadFault) → header ≡ Ok order
+    → header ≡ Err fault → ⊥
 apart header order fault read refused = cc
 
-same_order : (header : Result Order HeadFault) (first second : Order) → header ≡ Ok first → header ≡ Ok second → first ≡ second
+same_order : (header : Result Order HeadFault) (first second : Order) → header ≡ Ok first → header ≡ Ok second
+    → first ≡ second
 same_order header first second left right = cc
 
-same_head_fault : (header : Result Order HeadFault) (first second : HeadFault) → header ≡ Err first → header ≡ Err second
+same_head_fault : (header : Result Order HeadFault) (first second : HeadFault) → header ≡ Err first
+    → header ≡ Err second
     → first ≡ second
 same_head_fault header first second left right = cc
 
@@ -60,7 +65,8 @@ record IsSameWalk (first second : Order) (fronts parts : List (List ℕ)) (left 
   pub rest : left ≡ other
 
 same_walk : (file : List ℕ) (first second : Order) (structures parts : List (List ℕ)) (rest other : List ℕ)
-    → IsWalk file first structures rest → IsWalk file second parts other → IsSameWalk first second structures parts rest other
+    → IsWalk file first structures rest → IsWalk file second parts other
+    → IsSameWalk first second structures parts rest other
 same_walk file first second structures parts rest other left right =
     let order : first ≡ second =
     same_order (header_of (take 40 file)) first second left.walked.header right.walked.header in
@@ -68,7 +74,8 @@ same_walk file first second structures parts rest other left right =
     let one : IsEnded first 40 structures rest = record { stand = left.walked.stand; end = left.end } in
     let two : IsEnded second 40 parts other = record { stand = right.walked.stand; end = right.end } in
     let same : (structures ≡ parts) × (rest ≡ other) =
-    same_parts second 40 structures parts rest other (sym left.walked.parts ∙ right.walked.parts) (subst P order one) two in
+    same_parts second 40 structures parts rest other (sym left.walked.parts ∙ right.walked.parts)
+    (subst P order one) two in
     record { order = order; structures = same.0; rest = same.1 }
 
 -- what a verdict of structures says is a walk to an end
@@ -83,12 +90,14 @@ walk_of_fault file at reason fault =
     record { size = fault.size; walked = fault.walked; end = inr (reason, subst P fault.place fault.fault) }
 
 -- nothing is no rest with a fault
-none-unfaulted : (order : Order) (place : ℕ) (rest : List ℕ) (reason : Reason) → [] ≡ rest → IsFault order place rest reason → ⊥
+none-unfaulted : (order : Order) (place : ℕ) (rest : List ℕ) (reason : Reason) → [] ≡ rest
+    → IsFault order place rest reason → ⊥
 none-unfaulted order place [] reason none fault =
     none-unheld place (common_of order []).length reason fault.holds
 none-unfaulted order place (byte ∷ others) reason none fault = cc
 
-same_sound : (file : List ℕ) (first second : Order) (count number : ℕ) → IsSound file first count → IsSound file second number
+same_sound : (file : List ℕ) (first second : Order) (count number : ℕ) → IsSound file first count
+    → IsSound file second number
     → Sound first count ≡ Sound second number
 same_sound file first second count number left right =
     let same = same_walk file first second left.structures right.structures [] []
@@ -167,7 +176,8 @@ verdict_of_parts file order size read structures rest parts stand (inr (reason, 
   }),
 )
 
-verdict_of_header : (file : List ℕ) (header : Result Order HeadFault) → 40 ≤ length file → header_of (take 40 file) ≡ header
+verdict_of_header : (file : List ℕ) (header : Result Order HeadFault) → 40 ≤ length file
+    → header_of (take 40 file) ≡ header
     → (verdict : Verdict) × IsVerdict file verdict
 verdict_of_header file (Ok order) size read =
     let walk = parted (length (drop 40 file)) order 40 (drop 40 file) (omega arith) in

@@ -1,5 +1,7 @@
 -- A list of bytes is structures that may stand and a rest that is empty or has a fault, in one way.
-use Rattle.std.proofs.Common.{◌≡◌, ℕ, zero, suc, ◌+◌, ◌<◌, ◌≤◌, ◌⊎◌, inl, inr, List, [], ◌∷◌, ◌++◌, length, take, drop, refl, sym, ap, subst, ◌∙◌, arith, append_assoc, length-append, length-drop, add-zero, take-append-drop}
+use Rattle.std.proofs.Common.{◌≡◌, ℕ, zero, suc, ◌+◌, ◌<◌, ◌≤◌, ◌⊎◌, inl, inr, List, [], ◌∷◌, ◌++◌, length, take, drop}
+use Rattle.std.proofs.Common.{refl, sym, ap, subst, ◌∙◌, arith, append_assoc, length-append, length-drop, add-zero}
+use Rattle.std.proofs.Common.{take-append-drop}
 use Rattle.std.proofs.lemmas.List.{length-take-le, nil_from_length}
 use Rattle.std.specs.List.{concat}
 use Rattle.scalar_types.specs.declared.Order.{Order}
@@ -28,7 +30,8 @@ ended-tail order place first others rest ended =
     record { stand = ended.stand.1; end = subst P behind ended.end }
 
 ended-cons : (order : Order) (place : ℕ) (first : List ℕ) (others : List (List ℕ)) (rest : List ℕ)
-    → MayStand order place first → IsEnded order (place + length first) others rest → IsEnded order place (first ∷ others) rest
+    → MayStand order place first → IsEnded order (place + length first) others rest
+    → IsEnded order place (first ∷ others) rest
 ended-cons order place first others rest may ended =
     let P : ℕ → Type 0 = λ at. IsEnd order at rest in
     let behind : place + length first + length (concat others) ≡ place + length (first ++ concat others) =
@@ -111,13 +114,15 @@ parted_behind order place bytes told tells fits tail =
     }
 
 -- bytes are parted where all that are fewer are
-parted_step : (order : Order) (place : ℕ) (bytes : List ℕ) (told : ℕ) → told ≡ (common_of order bytes).length → 0 < length bytes
+parted_step : (order : Order) (place : ℕ) (bytes : List ℕ) (told : ℕ) → told ≡ (common_of order bytes).length
+    → 0 < length bytes
     → ((behind : ℕ) (tail : List ℕ) → length tail < length bytes → Parted order behind tail) → Parted order place bytes
 parted_step order place bytes told tells some fewer =
     elim (judged place (length bytes) told some) [
       | inl fits ↦ parted_behind order place bytes told tells fits
           (fewer (place + told) (drop told bytes) (omega (arith, fits.head, fits.whole, length-drop told bytes)))
-      | inr (reason, least) ↦ parted_here order place bytes (inr (reason, fault_of_least order place bytes told reason tells least))
+      | inr (reason, least) ↦ parted_here order place bytes
+          (inr (reason, fault_of_least order place bytes told reason tells least))
     ]
 
 -- any bytes are parted

@@ -1,5 +1,6 @@
 -- The reply that is due to a run, by what was found and printed.
-use Rattle.std.proofs.Common.{◌≡◌, ℕ, ◌<◌, List, length, Option, Some, None, IsSome, Ok, IsErrOf, refl, sym, subst, arith}
+use Rattle.std.proofs.Common.{◌≡◌, ℕ, ◌<◌, List, length, Option, Some, None, IsSome, Ok, IsErrOf, refl, sym, subst}
+use Rattle.std.proofs.Common.{arith}
 use Rattle.std.proofs.lemmas.List.{take_all}
 use Rattle.frame_outside.specs.Shelf.{Outside, Files, Told}
 use Rattle.frame_outside.specs.Sink.{Output, Appends}
@@ -17,29 +18,36 @@ whole_front text old new appends = record {
 }
 
 -- a text that was appended was printed, whatever the answer
-pub prints_whole : (outcome : Outcome) (text : List ℕ) (old new : Output) → Appends old new text → Prints outcome text old new
+pub prints_whole : (outcome : Outcome) (text : List ℕ) (old new : Output) → Appends old new text
+    → Prints outcome text old new
 prints_whole Device text old new appends = whole_front text old new appends
 prints_whole NoMemory text old new appends = whole_front text old new appends
 prints_whole _ text old new appends = appends
 
-due_by : {A : Type 0} (is : List ℕ → A → Type 0) (reply_of : A → Reply) (held : Option (List ℕ)) (a : A) → Told held (λ file. is file a) → (held ≡ None → ⊥) → IsFileDue is reply_of held (reply_of a)
+due_by : {A : Type 0} (is : List ℕ → A → Type 0) (reply_of : A → Reply) (held : Option (List ℕ)) (a : A)
+    → Told held (λ file. is file a) → (held ≡ None → ⊥) → IsFileDue is reply_of held (reply_of a)
 due_by is reply_of None a told missing = absurd (missing refl)
 due_by is reply_of (Some file) a told missing = (a, told file refl, refl)
 
 -- the reply that is due is that of what was found
-pub due_is_found : {A : Type 0} (is : List ℕ → A → Type 0) (reply_of : A → Reply) → NoneHasTwo is → (held : Option (List ℕ)) (a : A) (reply : Reply) → Told held (λ file. is file a) → (held ≡ None → ⊥) →
+pub due_is_found : {A : Type 0} (is : List ℕ → A → Type 0) (reply_of : A → Reply) → NoneHasTwo is
+    → (held : Option (List ℕ)) (a : A) (reply : Reply) → Told held (λ file. is file a) → (held ≡ None → ⊥) →
     IsFileDue is reply_of held reply → reply ≡ reply_of a
 due_is_found is reply_of alone held a reply told missing due =
     file_dues is reply_of alone held reply (reply_of a) due (due_by is reply_of held a told missing)
 
-missed_due : {A : Type 0} (is : List ℕ → A → Type 0) (reply_of : A → Reply) (held : Option (List ℕ)) (old new : ℕ) → (IsSome held → new ≡ old) → old < new → IsFileDue is reply_of held (reply_with Device)
+missed_due : {A : Type 0} (is : List ℕ → A → Type 0) (reply_of : A → Reply) (held : Option (List ℕ)) (old new : ℕ)
+    → (IsSome held → new ≡ old) → old < new → IsFileDue is reply_of held (reply_with Device)
 missed_due is reply_of None old new kept rose = refl
 missed_due is reply_of (Some file) old new kept rose = absurd (omega (arith, kept refl))
 
 -- a name was missed only where it is not held
-pub misses_due : {A : Type 0} (is : List ℕ → A → Type 0) (reply_of : A → Reply) (old new : Outside) (files : Files) (name : List ℕ) → ReadsOneFile old new name → old.files ≡ Some files → old.misses < new.misses →
+pub misses_due : {A : Type 0} (is : List ℕ → A → Type 0) (reply_of : A
+    → Reply) (old new : Outside) (files : Files) (name : List ℕ) → ReadsOneFile old new name → old.files ≡ Some files
+    → old.misses < new.misses →
     IsFileDue is reply_of (files name) (reply_with Device)
-misses_due is reply_of old new files name reads told rose = missed_due is reply_of (files name) old.misses new.misses (reads.missed files told) rose
+misses_due is reply_of old new files name reads told rose =
+    missed_due is reply_of (files name) old.misses new.misses (reads.missed files told) rose
 
 pub no_error : {T E : Type 0} (value : T) (error : E) → IsErrOf (Ok value) error → ⊥
 no_error value error same = cc

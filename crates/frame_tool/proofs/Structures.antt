@@ -1,5 +1,6 @@
 -- Structures that may stand, and what is read at the front of the bytes that begin with one.
-use Rattle.std.proofs.Common.{◌≡◌, ℕ, ◌+◌, ◌≤◌, List, [], ◌∷◌, ◌++◌, length, take, drop, refl, sym, ap, subst, ◌∙◌, arith, append-nil, take-append-drop, append_assoc, length-append, add-zero}
+use Rattle.std.proofs.Common.{◌≡◌, ℕ, ◌+◌, ◌≤◌, List, [], ◌∷◌, ◌++◌, length, take, drop, refl, sym, ap, subst, ◌∙◌}
+use Rattle.std.proofs.Common.{arith, append-nil, take-append-drop, append_assoc, length-append, add-zero}
 use Rattle.std.proofs.Math.Seq.{take-add}
 use Rattle.std.proofs.lemmas.List.{take_at, drop_at, length-take-le}
 use Rattle.std.proofs.lemmas.List.Folds.{concat-append}
@@ -23,7 +24,8 @@ told-structure order structure others whole =
     ap (λ common. common.length) (common_of-append order structure others whole.head) ∙ whole.whole
 
 -- the front of bytes that is as long as they tell is a structure
-pub structure-take : (order : Order) (bytes : List ℕ) (told : ℕ) → told ≡ (common_of order bytes).length → 14 ≤ told → told ≤ length bytes
+pub structure-take : (order : Order) (bytes : List ℕ) (told : ℕ) → told ≡ (common_of order bytes).length → 14 ≤ told
+    → told ≤ length bytes
     → IsStructure order (take told bytes)
 structure-take order bytes told tells enough within =
     let long : length (take told bytes) ≡ told = length-take-le told bytes within in
@@ -33,7 +35,8 @@ structure-take order bytes told tells enough within =
     }
 
 -- bytes begin with one structure at most
-pub same_structure : (order : Order) (first second others rest : List ℕ) → IsStructure order first → IsStructure order second
+pub same_structure : (order : Order) (first second others rest : List ℕ) → IsStructure order first
+    → IsStructure order second
     → first ++ others ≡ second ++ rest → (first ≡ second) × (others ≡ rest)
 same_structure order first second others rest left right same =
     let long : length first ≡ length second =

@@ -9,5 +9,6 @@ use Rattle.frame_tool.specs.declared.judgement.Finding.TheVariants.{Accepted, Re
 -- what is found of a file
 abbrev pub IsFinding : List ℕ → Finding → Type 0
 IsFinding file (Accepted order frames records bytes) =
-    (items : List Item) × (last : Before) × IsWellFormed file order items last × (frames ≡ last.frames) × (records ≡ last.records) × (bytes ≡ length file)
+    (items : List Item) × (last : Before) × IsWellFormed file order items last × (frames ≡ last.frames)
+    × (records ≡ last.records) × (bytes ≡ length file)
 IsFinding file (Refused fault) = IsFirstFault file fault

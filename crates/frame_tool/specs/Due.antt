@@ -25,7 +25,8 @@ order_name Big = codes "big"
 order_name Little = codes "little"
 
 abbrev pub walk_text : Order → ℕ → List ℕ
-walk_text order count = codes "order: " ++ (order_name order ++ (codes "\nstructures: " ++ (decimal count ++ codes "\n")))
+walk_text order count = codes "order: "
+    ++ (order_name order ++ (codes "\nstructures: " ++ (decimal count ++ codes "\n")))
 
 -- an answer that prints its line alone
 abbrev pub reply_with : Outcome → Reply
@@ -39,11 +40,15 @@ walk_reply (Wrong at reason) = reply_with (Fault 0 at 0 reason)
 -- the text of an accepted file
 abbrev pub check_text : Order → ℕ → ℕ → ℕ → List ℕ
 check_text order frames records bytes =
-    codes "accepted\norder: " ++ (order_name order ++ (codes "\nframes: " ++ (decimal frames ++ (codes "\nrecords: " ++ (decimal records ++ (codes "\nbytes: " ++ (decimal bytes ++ codes "\n")))))))
+    codes "accepted\norder: "
+    ++ (order_name order ++ (codes "\nframes: "
+    ++ (decimal frames ++ (codes "\nrecords: "
+    ++ (decimal records ++ (codes "\nbytes: " ++ (decimal bytes ++ codes "\n")))))))
 
 -- the reply of `check` by what is found
 abbrev pub check_reply : Finding → Reply
-check_reply (Accepted order frames records bytes) = record { outcome = Done; text = check_text order frames records bytes }
+check_reply (Accepted order frames records bytes) =
+    record { outcome = Done; text = check_text order frames records bytes }
 check_reply (Refused fault) = reply_with (Fault 0 fault.at fault.field fault.reason)
 
 -- The reply that is due over the bytes of a file of which this is to be found; none are held where the name is not.
@@ -88,4 +93,5 @@ EachRunHasADueReply = (files : Files) (words : List (List ℕ)) → (reply : Rep
 
 -- and no two
 abbrev pub NoRunHasTwoDueReplies : Type 0
-NoRunHasTwoDueReplies = (files : Files) (words : List (List ℕ)) (first second : Reply) → IsDue files words first → IsDue files words second → first ≡ second
+NoRunHasTwoDueReplies = (files : Files) (words : List (List ℕ)) (first second : Reply) → IsDue files words first
+    → IsDue files words second → first ≡ second

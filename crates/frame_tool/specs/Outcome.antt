@@ -2,7 +2,9 @@
 use Rattle.std.specs.Prelude.{ℕ, List, [], ◌++◌, codes}
 use Rattle.std.specs.Fmt.{decimal}
 use Rattle.frame_tool.specs.declared.outcome.Outcome.{Outcome}
-use Rattle.frame_tool.specs.declared.outcome.Outcome.TheVariants.{Done, Same, Different, Fault, NoChannel, NoTable, TableLies, Clash, OutputLimit, FramesLimit, Usage, Device, NoMemory}
+use Rattle.frame_tool.specs.declared.outcome.Outcome.TheVariants.{Done, Same, Different, Fault, NoChannel, NoTable}
+use Rattle.frame_tool.specs.declared.outcome.Outcome.TheVariants.{TableLies, Clash, OutputLimit, FramesLimit, Usage}
+use Rattle.frame_tool.specs.declared.outcome.Outcome.TheVariants.{Device, NoMemory}
 use Rattle.item_reader.specs.Reason.{number_of, name_of}
 
 abbrev pub status_of : Outcome → ℕ
@@ -30,7 +32,8 @@ line_of (Fault file at field reason) =
 line_of NoChannel = codes "no channel\n"
 line_of NoTable = codes "no table\n"
 line_of (TableLies at) = codes "table lies at " ++ (decimal at ++ codes "\n")
-line_of (Clash file class) = codes "clash: file " ++ (decimal file ++ (codes " class " ++ (decimal class ++ codes "\n")))
+line_of (Clash file class) =
+    codes "clash: file " ++ (decimal file ++ (codes " class " ++ (decimal class ++ codes "\n")))
 line_of OutputLimit = codes "output limit\n"
 line_of FramesLimit = codes "frames limit\n"
 line_of Usage = codes "usage\n"

@@ -5,7 +5,8 @@ use Rattle.scalar_types.specs.declared.Order.{Order}
 use Rattle.frame_head.specs.Header.{header_of}
 use Rattle.frame_head.specs.Structure.{IsStructure, common_of}
 use Rattle.item_reader.specs.declared.reason.Reason.{Reason}
-use Rattle.item_reader.specs.declared.reason.Reason.TheVariants.{CutHeader, BadHeader, CutRecord, LengthSmall, RecordLimit, FileLimit}
+use Rattle.item_reader.specs.declared.reason.Reason.TheVariants.{CutHeader, BadHeader, CutRecord, LengthSmall}
+use Rattle.item_reader.specs.declared.reason.Reason.TheVariants.{RecordLimit, FileLimit}
 use Rattle.frame_tool.specs.declared.verdict.Verdict.{Verdict}
 use Rattle.frame_tool.specs.declared.verdict.Verdict.TheVariants.{Sound, Wrong}
 use Rattle.item_reader.specs.Reason.{number_of}
@@ -20,7 +21,8 @@ pub record MayStand (order : Order) (place : ℕ) (structure : List ℕ) : Type 
 -- structures that may stand one after another from a place on
 abbrev pub StandFrom : Order → ℕ → List (List ℕ) → Type 0
 StandFrom order place [] = ⊤
-StandFrom order place (structure ∷ others) = MayStand order place structure × StandFrom order (place + length structure) others
+StandFrom order place (structure ∷ others) = MayStand order place structure
+    × StandFrom order (place + length structure) others
 
 -- what a reason says of a structure's place, of the bytes that are left there, and of the length that they tell
 abbrev pub Holds : Reason → ℕ → ℕ → ℕ → Type 0
@@ -33,7 +35,8 @@ Holds _ place left told = ⊥
 -- the reason of the least number that holds
 pub record IsFault (order : Order) (place : ℕ) (rest : List ℕ) (reason : Reason) : Type 0 where
   pub holds : Holds reason place (length rest) (common_of order rest).length
-  pub least : (other : Reason) → Holds other place (length rest) (common_of order rest).length → number_of reason ≤ number_of other
+  pub least : (other : Reason) → Holds other place (length rest) (common_of order rest).length
+      → number_of reason ≤ number_of other
 
 -- a file is its header, structures that may stand there one after another, and a rest
 pub record IsWalked (file : List ℕ) (order : Order) (structures : List (List ℕ)) (rest : List ℕ) : Type 0 where
@@ -75,4 +78,5 @@ EachFileHasAVerdict = (file : List ℕ) → (verdict : Verdict) × IsVerdict fil
 
 -- and no two
 abbrev pub NoFileHasTwoVerdicts : Type 0
-NoFileHasTwoVerdicts = (file : List ℕ) (first second : Verdict) → IsVerdict file first → IsVerdict file second → first ≡ second
+NoFileHasTwoVerdicts = (file : List ℕ) (first second : Verdict) → IsVerdict file first → IsVerdict file second
+    → first ≡ second

@@ -19,8 +19,10 @@ body_size_of length = if nat_le length record_limit then length - 14 else 0
 -- a judgement by the bytes that are left at a place and the length that they tell
 abbrev pub Judges : ℕ → ℕ → ℕ → Found → Type 0
 Judges place left told End = left ≡ 0
-Judges place left told (Structure size) = (told ≡ size) × (14 ≤ size) × (size ≤ left) × (size ≤ record_limit) × (place + size ≤ file_limit)
-Judges place left told (Fault reason) = Holds reason place left told × ((other : Reason) → Holds other place left told → number_of reason ≤ number_of other)
+Judges place left told (Structure size) = (told ≡ size) × (14 ≤ size) × (size ≤ left) × (size ≤ record_limit)
+    × (place + size ≤ file_limit)
+Judges place left told (Fault reason) = Holds reason place left told
+    × ((other : Reason) → Holds other place left told → number_of reason ≤ number_of other)
 
 -- what stands at the front of a rest
 abbrev pub IsFound : Order → ℕ → List ℕ → Found → Type 0
@@ -31,7 +33,8 @@ IsFound order place rest (Fault reason) = IsFault order place rest reason
 -- a reader passed over what was found
 abbrev pub Moves : Outside → Outside → Buffered → Buffered → ℕ → Found → Type 0
 Moves old new before after place End = Draws old new before.slot
-Moves old new before after place (Structure size) = Advances old new before after size × (14 ≤ size) × (place + size ≤ file_limit)
+Moves old new before after place (Structure size) = Advances old new before after size × (14 ≤ size)
+    × (place + size ≤ file_limit)
 Moves old new before after place (Fault reason) = Draws old new before.slot
 
 -- the front of a rest is structures that may stand after the header

@@ -1,5 +1,6 @@
 -- Numbers of one byte each are the bytes.
-use Rattle.std.proofs.Common.{◌≡◌, ℕ, suc, zero, ◌+◌, ◌*◌, ◌^◌, ◌<◌, ◌≤◌, ◌⊎◌, List, [], ◌∷◌, length, Ok, refl, sym, ap, ◌∙◌, inl, inr, arith}
+use Rattle.std.proofs.Common.{◌≡◌, ℕ, suc, zero, ◌+◌, ◌*◌, ◌^◌, ◌<◌, ◌≤◌, ◌⊎◌, List, [], ◌∷◌, length, Ok, refl, sym, ap}
+use Rattle.std.proofs.Common.{◌∙◌, inl, inr, arith}
 use Rattle.std.proofs.lemmas.Bool.{cases_lt}
 use Rattle.scalar_types.specs.declared.Order.{Order}
 use Rattle.scalar_types.specs.declared.Order.TheVariants.{Big, Little}
@@ -18,14 +19,19 @@ number_in-first Little b bs =
     ap (found_map (number Little)) (bytes_in-enough 1 (b ∷ bs) (omega arith)) ∙ ap (λ n. Ok (n, bs)) same
 
 pub items-bytes : (order : Order) (n : ℕ) (bytes : List ℕ) → items_in (number_in order One) n bytes ≡ bytes_in n bytes
-items-bytes order zero bytes = items_in-zero (number_in order One) 0 bytes refl ∙ sym (bytes_in-enough 0 bytes (omega arith))
-items-bytes order (suc n) [] = items_in-suc (number_in order One) n (suc n) [] refl ∙ sym (bytes_in-few (suc n) [] (omega arith))
+items-bytes order zero bytes = items_in-zero (number_in order One) 0 bytes refl
+    ∙ sym (bytes_in-enough 0 bytes (omega arith))
+items-bytes order (suc n) [] = items_in-suc (number_in order One) n (suc n) [] refl
+    ∙ sym (bytes_in-few (suc n) [] (omega arith))
 items-bytes order (suc n) (b ∷ bs) =
     items_in-suc (number_in order One) n (suc n) (b ∷ bs) refl
-    ∙ ap (λ r. and_then r (λ (x : ℕ × List ℕ). found_map (λ xs. x.0 ∷ xs) (items_in (number_in order One) n x.1))) (number_in-first order b bs)
+    ∙ ap (λ r. and_then r (λ (x : ℕ × List ℕ). found_map (λ xs. x.0 ∷ xs) (items_in (number_in order One) n x.1)))
+    (number_in-first order b bs)
     ∙ ap (found_map (λ xs. b ∷ xs)) (items-bytes order n bs)
     ∙ more (cases_lt (length bs) n)
   where
     more : (length bs < n) ⊎ (n ≤ length bs) → found_map (λ xs. b ∷ xs) (bytes_in n bs) ≡ bytes_in (suc n) (b ∷ bs)
-    more (inl few) = ap (found_map (λ xs. b ∷ xs)) (bytes_in-few n bs few) ∙ sym (bytes_in-few (suc n) (b ∷ bs) (omega arith))
-    more (inr enough) = ap (found_map (λ xs. b ∷ xs)) (bytes_in-enough n bs enough) ∙ sym (bytes_in-enough (suc n) (b ∷ bs) (omega arith))
+    more (inl few) = ap (found_map (λ xs. b ∷ xs)) (bytes_in-few n bs few)
+        ∙ sym (bytes_in-few (suc n) (b ∷ bs) (omega arith))
+    more (inr enough) = ap (found_map (λ xs. b ∷ xs)) (bytes_in-enough n bs enough)
+        ∙ sym (bytes_in-enough (suc n) (b ∷ bs) (omega arith))

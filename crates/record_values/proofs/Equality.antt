@@ -14,13 +14,15 @@ Texts-eq-Decides xs ys = slice_eq-Decides bytes_eq-Decides xs ys _ refl
 Pair-eq-Decides : (a b : ℕ × ℕ) → Decides (nat_eq a.0 b.0 && nat_eq a.1 b.1) (a ≡ b)
 Pair-eq-Decides a b = search (rules, Decides-eqb)
 
-Pairs-eq-Decides : (xs ys : List (ℕ × ℕ)) → Decides (pointwise (λ (a b : ℕ × ℕ). nat_eq a.0 b.0 && nat_eq a.1 b.1) xs ys) (xs ≡ ys)
+Pairs-eq-Decides : (xs ys : List (ℕ × ℕ))
+    → Decides (pointwise (λ (a b : ℕ × ℕ). nat_eq a.0 b.0 && nat_eq a.1 b.1) xs ys) (xs ≡ ys)
 Pairs-eq-Decides xs ys = slice_eq-Decides Pair-eq-Decides xs ys _ refl
 
 Link-eq-Decides : (a b : Link) → Decides (nat_eq a.class b.class && nat_eq a.instance b.instance) (a ≡ b)
 Link-eq-Decides a b = search (rules, Decides-eqb)
 
-Links-eq-Decides : (xs ys : List Link) → Decides (pointwise (λ (a b : Link). nat_eq a.class b.class && nat_eq a.instance b.instance) xs ys) (xs ≡ ys)
+Links-eq-Decides : (xs ys : List Link)
+    → Decides (pointwise (λ (a b : Link). nat_eq a.class b.class && nat_eq a.instance b.instance) xs ys) (xs ≡ ys)
 Links-eq-Decides xs ys = slice_eq-Decides Link-eq-Decides xs ys _ refl
 
 Value-eq-Decides : (a b : Value) → Decides (value.ghosts.eq a b) (a ≡ b)

@@ -1,5 +1,6 @@
 -- Values with other links in place of their own.
-use Rattle.std.proofs.Common.{◌≡◌, ℕ, zero, suc, ◌+◌, ◌-◌, ◌<◌, List, [], ◌∷◌, ◌++◌, length, take, map, Some, refl, sym, ap, ◌∙◌, arith}
+use Rattle.std.proofs.Common.{◌≡◌, ℕ, zero, suc, ◌+◌, ◌-◌, ◌<◌, List, [], ◌∷◌, ◌++◌, length, take, map, Some, refl, sym}
+use Rattle.std.proofs.Common.{ap, ◌∙◌, arith}
 use Rattle.std.specs.Prelude.{slice_get, slice_set}
 use Rattle.std.proofs.lemmas.List.{length-append, length-set, set-append_left, set-append_right, take_at, drop_at}
 use Rattle.std.proofs.lemmas.Option.{same_Some}
@@ -22,7 +23,8 @@ linked_value-number (value.Pairs xs) links = refl
 linked_value-number (value.Texts xs) links = refl
 linked_value-number (value.Bytes xs) links = refl
 
-pub linked_value-numbers : (values : List Value) (i : ℕ) (v : Value) (links : List Link) → slice_get values i ≡ Some v → map number_of (slice_set values i (linked_value v links)) ≡ map number_of values
+pub linked_value-numbers : (values : List Value) (i : ℕ) (v : Value) (links : List Link) → slice_get values i ≡ Some v
+    → map number_of (slice_set values i (linked_value v links)) ≡ map number_of values
 linked_value-numbers [] i v links is = refl
 linked_value-numbers (w ∷ ws) zero v links is =
     ap (λ n. n ∷ map number_of ws) (linked_value-number v links ∙ ap number_of (sym (same_Some w v is)))
@@ -42,9 +44,11 @@ linked_value-own (value.Texts xs) = refl
 linked_value-own (value.Bytes xs) = refl
 
 -- the links of the first value, and those of the others
-linked-first : (v : Value) (vs : List Value) (first others : List Link) → length first ≡ length (links_of v) → linked (v ∷ vs) (first ++ others) ≡ linked_value v first ∷ linked vs others
+linked-first : (v : Value) (vs : List Value) (first others : List Link) → length first ≡ length (links_of v)
+    → linked (v ∷ vs) (first ++ others) ≡ linked_value v first ∷ linked vs others
 linked-first v vs first others size =
-    λ i. linked_value v (take_at first others (length (links_of v)) size i) ∷ linked vs (drop_at first others (length (links_of v)) size i)
+    λ i. linked_value v (take_at first others (length (links_of v)) size i)
+    ∷ linked vs (drop_at first others (length (links_of v)) size i)
 
 pub linked-own : (values : List Value) → linked values (links_in values) ≡ values
 linked-own [] = refl
@@ -52,7 +56,10 @@ linked-own (v ∷ vs) =
     linked-first v vs (links_of v) (links_in vs) refl ∙ (λ i. linked_value-own v i ∷ linked-own vs i)
 
 -- another link in place of the n-th of the value at a place
-pub linked-at : (values : List Value) (i n : ℕ) (v : Value) (link : Link) → slice_get values i ≡ Some v → n < length (links_of v) → linked values (slice_set (links_in values) (length (links_in (take i values)) + n) link) ≡ slice_set values i (linked_value v (slice_set (links_of v) n link))
+pub linked-at : (values : List Value) (i n : ℕ) (v : Value) (link : Link) → slice_get values i ≡ Some v
+    → n < length (links_of v)
+    → linked values (slice_set (links_in values) (length (links_in (take i values)) + n) link)
+    ≡ slice_set values i (linked_value v (slice_set (links_of v) n link))
 linked-at [] i n v link is lt = cc
 linked-at (w ∷ ws) zero n v link is lt =
     let same = same_Some w v is in
@@ -64,8 +71,10 @@ linked-at (w ∷ ws) zero n v link is lt =
     ∙ (λ j. linked_value (same j) (slice_set (links_of (same j)) n link) ∷ linked-own ws j)
 linked-at (w ∷ ws) (suc i) n v link is lt =
     let size = length-append (links_of w) (links_in (take i ws)) in
-    let later : length (links_of w ++ links_in (take i ws)) + n - length (links_of w) ≡ length (links_in (take i ws)) + n = omega (arith, size) in
-    ap (linked (w ∷ ws)) (set-append_right (links_of w) (links_in ws) (length (links_of w)) (length (links_of w ++ links_in (take i ws)) + n) link refl (omega (arith, size)))
+    let later : length (links_of w ++ links_in (take i ws)) + n - length (links_of w) ≡ length (links_in (take i ws))
+    + n = omega (arith, size) in
+    ap (linked (w ∷ ws)) (set-append_right (links_of w) (links_in ws) (length (links_of w))
+    (length (links_of w ++ links_in (take i ws)) + n) link refl (omega (arith, size)))
     ∙ ap (λ k. linked (w ∷ ws) (links_of w ++ slice_set (links_in ws) k link)) later
     ∙ linked-first w ws (links_of w) (slice_set (links_in ws) (length (links_in (take i ws)) + n) link) refl
     ∙ (λ j. linked_value-own w j ∷ linked-at ws i n v link is lt j)

@@ -1,4 +1,5 @@
--- How one item of a record's body is spelled, as the Common Data Frame Format has it (LIGO-T970130 v8: data types, STRING, PTR_STRUCT).
+-- How one item of a record's body is spelled, as the Common Data Frame Format has it (LIGO-T970130 v8: data types,
+-- STRING, PTR_STRUCT).
 use Rattle.std.specs.Prelude.{◌≡◌, ℕ, ◌+◌, ◌⊎◌, List, [], ◌∷◌, ◌++◌, length}
 use Rattle.scalar_types.specs.declared.Order.{Order}
 use Rattle.scalar_types.specs.declared.Width.{Width}
@@ -19,7 +20,8 @@ pub record IsPair (order : Order) (width : Width) (pair : ℕ × ℕ) (bytes : L
   pub first : IsNumber order width pair.0 front
   pub second : IsNumber order width pair.1 back
 
--- The bytes are a two-byte length that counts the closing zero byte, the text, and the zero byte. So the text has at most 65,534 bytes, as many as two bytes can count.
+-- The bytes are a two-byte length that counts the closing zero byte, the text, and the zero byte. So the text has at
+-- most 65,534 bytes, as many as two bytes can count.
 pub record IsClosedText (order : Order) (text bytes : List ℕ) : Type 0 where
   pub front : List ℕ
   pub split : bytes ≡ front ++ text ++ 0 ∷ []

@@ -1,5 +1,6 @@
 -- Bytes that grow at the end, item by item.
-use Rattle.std.proofs.Common.{◌≡◌, ℕ, ◌+◌, ◌<◌, ◌≤◌, List, [], ◌∷◌, ◌++◌, length, take, get_or, Result, Ok, Err, is_ok, OnOk, refl, sym, ap, ◌∙◌, subst, add-one, append_assoc, append-nil}
+use Rattle.std.proofs.Common.{◌≡◌, ℕ, ◌+◌, ◌<◌, ◌≤◌, List, [], ◌∷◌, ◌++◌, length, take, get_or, Result, Ok, Err, is_ok}
+use Rattle.std.proofs.Common.{OnOk, refl, sym, ap, ◌∙◌, subst, add-one, append_assoc, append-nil}
 use Rattle.std.specs.Prelude.{if◌then◌else◌}
 use Rattle.std.proofs.lemmas.List.{take_all}
 use Rattle.std.proofs.Math.Seq.{take-suc}
@@ -8,27 +9,41 @@ use Rattle.layout_plan.specs.Appends.{Appends}
 use Rattle.layout_plan.proofs.AppendLemmas.{Appends-none, Appends-more, Appends-as}
 
 -- one more item
-AreItems-push : {X : Type 0} (R : X → List ℕ → Type 0) (xs : List X) (x : X) (front back : List ℕ) → AreItems R xs front → R x back → AreItems R (xs ++ x ∷ []) (front ++ back)
+AreItems-push : {X : Type 0} (R : X → List ℕ → Type 0) (xs : List X) (x : X) (front back : List ℕ) → AreItems R xs front
+    → R x back → AreItems R (xs ++ x ∷ []) (front ++ back)
 AreItems-push R [] x front back none r =
     (back, [], ap (λ f. f ++ back) none ∙ sym (append-nil back), r, refl)
-AreItems-push R (y ∷ ys) x front back (first, rest, split, s, items) r =
-    (first, rest ++ back, ap (λ f. f ++ back) split ∙ append_assoc first rest back, s, AreItems-push R ys x rest back items r)
+AreItems-push R (y ∷ ys) x front back (first, rest, split, s, items) r = (
+  first,
+  rest ++ back,
+  ap (λ f. f ++ back) split ∙ append_assoc first rest back,
+  s,
+  AreItems-push R ys x rest back items r,
+)
 
 -- nothing is appended yet
-pub items_none : {X : Type 0} (R : X → List ℕ → Type 0) (xs : List X) (old : List ℕ) → Appends (AreItems R (take 0 xs)) old old
+pub items_none : {X : Type 0} (R : X → List ℕ → Type 0) (xs : List X) (old : List ℕ)
+    → Appends (AreItems R (take 0 xs)) old old
 items_none R xs old = Appends-none (AreItems R (take 0 xs)) old refl
 
 -- one more item of a list is appended
-pub items_more : {X : Type 0} (R : X → List ℕ → Type 0) (xs : List X) (i : ℕ) (d x : X) (old mid new : List ℕ) → i < length xs → x ≡ get_or xs i d → Appends (AreItems R (take i xs)) old mid → Appends (R x) mid new → Appends (AreItems R (take (i + 1) xs)) old new
+pub items_more : {X : Type 0} (R : X → List ℕ → Type 0) (xs : List X) (i : ℕ) (d x : X) (old mid new : List ℕ)
+    → i < length xs → x ≡ get_or xs i d → Appends (AreItems R (take i xs)) old mid → Appends (R x) mid new
+    → Appends (AreItems R (take (i + 1) xs)) old new
 items_more R xs i d x old mid new within is before one =
-    Appends-more (AreItems R (take i xs)) (R x) (AreItems R (take (i + 1) xs)) old mid new before one (λ front back items r. rw (add-one, take-suc xs i d, ← is) (AreItems-push R (take i xs) x front back items r))
+    Appends-more (AreItems R (take i xs)) (R x) (AreItems R (take (i + 1) xs)) old mid new before one
+    (λ front back items r. rw (add-one, take-suc xs i d, ← is) (AreItems-push R (take i xs) x front back items r))
 
 -- all items are appended
-pub items_all : {X : Type 0} (R : X → List ℕ → Type 0) (xs : List X) (i : ℕ) (old new : List ℕ) → length xs ≤ i → Appends (AreItems R (take i xs)) old new → Appends (AreItems R xs) old new
+pub items_all : {X : Type 0} (R : X → List ℕ → Type 0) (xs : List X) (i : ℕ) (old new : List ℕ) → length xs ≤ i
+    → Appends (AreItems R (take i xs)) old new → Appends (AreItems R xs) old new
 items_all R xs i old new all before =
-    Appends-as (AreItems R (take i xs)) (AreItems R xs) old new before (λ bytes items. subst (λ ys. AreItems R ys bytes) (take_all i xs all) items)
+    Appends-as (AreItems R (take i xs)) (AreItems R xs) old new before
+    (λ bytes items. subst (λ ys. AreItems R ys bytes) (take_all i xs all) items)
 
 -- bytes are appended, or none where that is refused
-pub appends_bytes : {A E : Type 0} (P : List ℕ → Type 0) (r : Result A E) (xs old new : List ℕ) → new ≡ (if is_ok r then old ++ xs else old) → P xs → Appends (λ bytes. OnOk r (P bytes)) old new
+pub appends_bytes : {A E : Type 0} (P : List ℕ → Type 0) (r : Result A E) (xs old new : List ℕ)
+    → new ≡ (if is_ok r then old ++ xs else old) → P xs → Appends (λ bytes. OnOk r (P bytes)) old new
 appends_bytes P (Ok x) xs old new appended p = record { items = xs; whole = appended; related = p }
-appends_bytes P (Err e) xs old new appended p = record { items = []; whole = appended ∙ sym (append-nil old); related = tt }
+appends_bytes P (Err e) xs old new appended p =
+    record { items = []; whole = appended ∙ sym (append-nil old); related = tt }

@@ -1,4 +1,5 @@
--- Values that fit a layout: a value for each field, of the field's form, width and item count (LIGO-T970130 v8: data types, STRING, arrays).
+-- Values that fit a layout: a value for each field, of the field's form, width and item count (LIGO-T970130 v8: data
+-- types, STRING, arrays).
 use Rattle.std.specs.Prelude.{◌≡◌, ℕ, ◌^◌, ◌<◌, ◌≤◌, List, [], ◌∷◌, length, map, All}
 use Rattle.std.specs.List.{AllZip}
 use Rattle.scalar_types.specs.declared.Width.{Width}
@@ -36,7 +37,8 @@ FitsSingle Text (value.Text text) = IsShortText text
 FitsSingle Link (value.Link link) = Unit {0}
 FitsSingle form v = ⊥
 
--- the value is a list of n items of this form. A list of one-byte numbers is Bytes, and each of its items has one byte by its type; each link is its class and instance, by their types.
+-- the value is a list of n items of this form. A list of one-byte numbers is Bytes, and each of its items has one byte
+-- by its type; each link is its class and instance, by their types.
 abbrev pub FitsListed : Form → ℕ → Value → Type 0
 FitsListed (Number One) n (value.Bytes xs) = length xs ≡ n
 FitsListed (Number One) n v = ⊥
@@ -51,6 +53,7 @@ abbrev pub FitsField : List ℕ → Form → List Count → Value → Type 0
 FitsField numbers form [] v = FitsSingle form v
 FitsField numbers form (c ∷ cs) v = FitsListed form (item_count numbers (c ∷ cs)) v
 
--- There are as many values as fields, and each fits its field. A dimension that names a field has the number that is that field's value in this same list.
+-- There are as many values as fields, and each fits its field. A dimension that names a field has the number that is
+-- that field's value in this same list.
 abbrev pub Fits : List Field → List Value → Type 0
 Fits fields values = AllZip (λ f v. FitsField (map number_of values) f.form f.counts v) fields values

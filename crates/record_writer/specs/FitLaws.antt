@@ -9,4 +9,5 @@ use Rattle.record_writer.specs.Fit.{Fits}
 -- The values that a body spells, in either order and with any tail, fit its fields.
 abbrev pub ReadValuesFit : Type 0
 ReadValuesFit =
-    (order : Order) (fields : List Field) (values : List Value) (tail bytes : List ℕ) → All (λ b. b < 256) bytes → IsBody order fields values tail bytes → Fits fields values
+    (order : Order) (fields : List Field) (values : List Value) (tail bytes : List ℕ) → All (λ b. b < 256) bytes
+    → IsBody order fields values tail bytes → Fits fields values

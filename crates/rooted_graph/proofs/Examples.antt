@@ -5,7 +5,11 @@ use Rattle.rooted_graph.specs.BreadthOrder.{first_occurrences, roots_and_targets
 use Rattle.rooted_graph.specs.InOrder.{graph_in_order}
 
 abbrev shared : Rooted
-shared = record { links = (Some 2 ∷ None ∷ Some 1 ∷ []) ∷ (Some 3 ∷ []) ∷ (Some 4 ∷ Some 3 ∷ []) ∷ [] ∷ [] ∷ (Some 5 ∷ []) ∷ []; roots = 0 ∷ [] }
+shared = record {
+  links =
+      (Some 2 ∷ None ∷ Some 1 ∷ []) ∷ (Some 3 ∷ []) ∷ (Some 4 ∷ Some 3 ∷ []) ∷ [] ∷ [] ∷ (Some 5 ∷ []) ∷ [];
+  roots = 0 ∷ [];
+}
 
 abbrev order : List ℕ
 order = 0 ∷ 2 ∷ 1 ∷ 4 ∷ 3 ∷ []
@@ -40,5 +44,9 @@ number_of_unreached : number_of order 5 ≡ None
 number_of_unreached = refl
 
 -- the graph in its order
-in_its_order : graph_in_order shared order ≡ record { links = (Some 1 ∷ None ∷ Some 2 ∷ []) ∷ (Some 3 ∷ Some 4 ∷ []) ∷ (Some 4 ∷ []) ∷ [] ∷ [] ∷ []; roots = 0 ∷ [] }
+in_its_order : graph_in_order shared order
+    ≡ record {
+      links = (Some 1 ∷ None ∷ Some 2 ∷ []) ∷ (Some 3 ∷ Some 4 ∷ []) ∷ (Some 4 ∷ []) ∷ [] ∷ [] ∷ [];
+      roots = 0 ∷ [];
+    }
 in_its_order = refl

@@ -1,5 +1,7 @@
--- The first occurrences in a list: what they hold, that each stands there once, and that a longer list only adds to them.
-use Rattle.std.proofs.Common.{◌≡◌, ℕ, zero, suc, ◌+◌, ◌<◌, Bool, true, false, ◌||◌, cond, List, [], ◌∷◌, ◌++◌, length, get_or, take, nat_eq, Some, refl, sym, ap, ◌∙◌, append_assoc, arith}
+-- The first occurrences in a list: what they hold, that each stands there once, and that a longer list only adds to
+-- them.
+use Rattle.std.proofs.Common.{◌≡◌, ℕ, zero, suc, ◌+◌, ◌<◌, Bool, true, false, ◌||◌, cond, List, [], ◌∷◌, ◌++◌, length}
+use Rattle.std.proofs.Common.{get_or, take, nat_eq, Some, refl, sym, ap, ◌∙◌, append_assoc, arith}
 use Rattle.std.specs.Prelude.{fold, slice_get, Contains}
 use Rattle.std.specs.Cmp.{nat_eq_equiv}
 use Rattle.std.specs.List.{IsDistinct}
@@ -42,7 +44,8 @@ has-added xs m n = go (has xs m) refl
 pub has-fold : (xs ys : List ℕ) (n : ℕ) → has (fold added xs ys) n ≡ (has xs n || has ys n)
 has-fold xs [] n = sym (or-false (has xs n))
 has-fold xs (y ∷ ys) n =
-    has-fold (added xs y) ys n ∙ ap (λ b. b || has ys n) (has-added xs y n) ∙ or_assoc (has xs n) (nat_eq n y) (has ys n)
+    has-fold (added xs y) ys n ∙ ap (λ b. b || has ys n) (has-added xs y n)
+    ∙ or_assoc (has xs n) (nat_eq n y) (has ys n)
 
 -- the first occurrences hold what the list holds
 pub has-first_occurrences : (xs : List ℕ) (n : ℕ) → has (first_occurrences xs) n ≡ has xs n
@@ -60,7 +63,8 @@ pub fold_front : (xs ys : List ℕ) → (rest : List ℕ) × (fold added xs ys �
 fold_front xs [] = ([], sym (append-nil xs))
 fold_front xs (y ∷ ys) = joined (added_front xs y) (fold_front (added xs y) ys)
   where
-    joined : (rest : List ℕ) × (added xs y ≡ xs ++ rest) → (rest : List ℕ) × (fold added (added xs y) ys ≡ added xs y ++ rest) → (rest : List ℕ) × (fold added (added xs y) ys ≡ xs ++ rest)
+    joined : (rest : List ℕ) × (added xs y ≡ xs ++ rest) → (rest : List ℕ)
+        × (fold added (added xs y) ys ≡ added xs y ++ rest) → (rest : List ℕ) × (fold added (added xs y) ys ≡ xs ++ rest)
     joined a b = (a.0 ++ b.0, b.1 ∙ ap (λ zs. zs ++ b.0) a.1 ∙ append_assoc xs a.0 b.0)
 
 added_distinct : (xs : List ℕ) (n : ℕ) → IsDistinct nat_eq xs → IsDistinct nat_eq (added xs n)
@@ -89,7 +93,9 @@ pub has_from_Contains : (xs : List ℕ) (n : ℕ) → Contains xs n → has xs n
 has_from_Contains xs n c = ap (has xs) (sym c.2) ∙ has_at xs c.0 n c.1
 
 -- one element of the list more
-pub fold_more : (s xs t u : List ℕ) (k n : ℕ) → slice_get xs k ≡ Some n → t ≡ fold added s (take k xs) → u ≡ added t n → u ≡ fold added s (take (k + 1) xs)
+pub fold_more : (s xs t u : List ℕ) (k n : ℕ) → slice_get xs k ≡ Some n → t ≡ fold added s (take k xs) → u ≡ added t n
+    → u ≡ fold added s (take (k + 1) xs)
 fold_more s xs t u k n here before after =
-    let taken : take (k + 1) xs ≡ take k xs ++ n ∷ [] = take_more xs k 0 (slice_get_within xs k n here) ∙ ap (λ m. take k xs ++ m ∷ []) (get_or_from_slice_get xs k n 0 here) in
+    let taken : take (k + 1) xs ≡ take k xs ++ n ∷ [] = take_more xs k 0 (slice_get_within xs k n here)
+    ∙ ap (λ m. take k xs ++ m ∷ []) (get_or_from_slice_get xs k n 0 here) in
     after ∙ ap (λ v. added v n) before ∙ sym (fold-append added s (take k xs) (n ∷ [])) ∙ ap (fold added s) (sym taken)

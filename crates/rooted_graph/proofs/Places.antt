@@ -1,5 +1,6 @@
 -- The number of a node in an order: where it is, and that the nodes behind change nothing.
-use Rattle.std.proofs.Common.{◌≡◌, ℕ, zero, suc, ◌<◌, Bool, true, false, ◌||◌, cond, Option, Some, None, List, [], ◌∷◌, ◌++◌, length, get_or, nat_eq, refl, sym, ap, ◌∙◌, subst, arith}
+use Rattle.std.proofs.Common.{◌≡◌, ℕ, zero, suc, ◌<◌, Bool, true, false, ◌||◌, cond, Option, Some, None, List, [], ◌∷◌}
+use Rattle.std.proofs.Common.{◌++◌, length, get_or, nat_eq, refl, sym, ap, ◌∙◌, subst, arith}
 use Rattle.std.specs.Prelude.{Contains}
 use Rattle.std.specs.Option.{option_map}
 use Rattle.std.specs.List.{IsDistinct}
@@ -13,7 +14,8 @@ pub number_has : (xs : List ℕ) (n : ℕ) → has xs n ≡ true → (k : ℕ) �
 number_has [] n h = absurd (cc)
 number_has (x ∷ xs) n h = go (nat_eq n x) h (number_has xs n)
   where
-    go : (b : Bool) → (b || has xs n) ≡ true → (has xs n ≡ true → (k : ℕ) × (number_of xs n ≡ Some k)) → (k : ℕ) × (cond b (Some 0) (option_map (λ i. suc i) (number_of xs n)) ≡ Some k)
+    go : (b : Bool) → (b || has xs n) ≡ true → (has xs n ≡ true → (k : ℕ) × (number_of xs n ≡ Some k)) → (k : ℕ)
+        × (cond b (Some 0) (option_map (λ i. suc i) (number_of xs n)) ≡ Some k)
     go true e later = (0, refl)
     go false e later = let found = later e in (suc found.0, ap (option_map (λ i. suc i)) found.1)
 
@@ -22,7 +24,8 @@ pub number_none : (xs : List ℕ) (n : ℕ) → has xs n ≡ false → number_of
 number_none [] n h = refl
 number_none (x ∷ xs) n h = go (nat_eq n x) h (number_none xs n)
   where
-    go : (b : Bool) → (b || has xs n) ≡ false → (has xs n ≡ false → number_of xs n ≡ None) → cond b (Some 0) (option_map (λ i. suc i) (number_of xs n)) ≡ None
+    go : (b : Bool) → (b || has xs n) ≡ false → (has xs n ≡ false → number_of xs n ≡ None)
+        → cond b (Some 0) (option_map (λ i. suc i) (number_of xs n)) ≡ None
     go true e later = absurd (cc)
     go false e later = ap (option_map (λ i. suc i)) (later e)
 
@@ -31,7 +34,9 @@ pub number_at : (xs : List ℕ) (n k : ℕ) → number_of xs n ≡ Some k → (k
 number_at [] n k e = absurd (cc)
 number_at (x ∷ xs) n k e = go (nat_eq n x) refl (number_of xs n) e (number_at xs n)
   where
-    go : (b : Bool) → nat_eq n x ≡ b → (o : Option ℕ) → cond b (Some 0) (option_map (λ i. suc i) o) ≡ Some k → ((j : ℕ) → o ≡ Some j → (j < length xs) × (get_or xs j 0 ≡ n)) → (k < suc (length xs)) × (get_or (x ∷ xs) k 0 ≡ n)
+    go : (b : Bool) → nat_eq n x ≡ b → (o : Option ℕ) → cond b (Some 0) (option_map (λ i. suc i) o) ≡ Some k
+        → ((j : ℕ) → o ≡ Some j → (j < length xs) × (get_or xs j 0 ≡ n)) → (k < suc (length xs))
+        × (get_or (x ∷ xs) k 0 ≡ n)
     go true same o e later =
         let zero_is : 0 ≡ k = cc in
         subst (λ j. (j < suc (length xs)) × (get_or (x ∷ xs) j 0 ≡ n)) zero_is (omega arith, sym (eqb-true n x same))
@@ -46,13 +51,16 @@ pub number_front : (xs ys : List ℕ) (n k : ℕ) → number_of xs n ≡ Some k 
 number_front [] ys n k e = absurd (cc)
 number_front (x ∷ xs) ys n k e = go (nat_eq n x) (number_of xs n) e (number_front xs ys n)
   where
-    go : (b : Bool) (o : Option ℕ) → cond b (Some 0) (option_map (λ i. suc i) o) ≡ Some k → ((j : ℕ) → o ≡ Some j → number_of (xs ++ ys) n ≡ Some j) → cond b (Some 0) (option_map (λ i. suc i) (number_of (xs ++ ys) n)) ≡ Some k
+    go : (b : Bool) (o : Option ℕ) → cond b (Some 0) (option_map (λ i. suc i) o) ≡ Some k
+        → ((j : ℕ) → o ≡ Some j → number_of (xs ++ ys) n ≡ Some j)
+        → cond b (Some 0) (option_map (λ i. suc i) (number_of (xs ++ ys) n)) ≡ Some k
     go true o e later = e
     go false None e later = absurd (cc)
     go false (Some j) e later = ap (option_map (λ i. suc i)) (later j refl) ∙ e
 
 -- in a list of distinct nodes each one's place is its number
-pub number_distinct : (xs : List ℕ) (k : ℕ) → IsDistinct nat_eq xs → k < length xs → number_of xs (get_or xs k 0) ≡ Some k
+pub number_distinct : (xs : List ℕ) (k : ℕ) → IsDistinct nat_eq xs → k < length xs
+    → number_of xs (get_or xs k 0) ≡ Some k
 unfolding IsDistinct
 number_distinct [] k d h = absurd (omega arith)
 number_distinct (x ∷ xs) zero d h =
@@ -60,9 +68,11 @@ number_distinct (x ∷ xs) zero d h =
 number_distinct (x ∷ xs) (suc k) d h =
     let within : k < length xs = omega arith in
     let y : ℕ = get_or xs k 0 in
-    let differ : nat_eq x y ≡ false = All-get_or (λ z. nat_eq x z ≡ false) xs k 0 within (All-from_recursion (λ z. nat_eq x z ≡ false) xs d.0) in
+    let differ : nat_eq x y ≡ false =
+    All-get_or (λ z. nat_eq x z ≡ false) xs k 0 within (All-from_recursion (λ z. nat_eq x z ≡ false) xs d.0) in
     let other : nat_eq y x ≡ false = ne_eqb y x (λ e. eqb-false x y differ (sym e)) in
-    ap (λ b. cond b (Some 0) (option_map (λ i. suc i) (number_of xs y))) other ∙ ap (option_map (λ i. suc i)) (number_distinct xs k d.1 within)
+    ap (λ b. cond b (Some 0) (option_map (λ i. suc i) (number_of xs y))) other
+    ∙ ap (option_map (λ i. suc i)) (number_distinct xs k d.1 within)
 
 pub Contains_from_has : (xs : List ℕ) (n : ℕ) → has xs n ≡ true → Contains xs n
 Contains_from_has xs n h = placed (number_has xs n h)
@@ -77,7 +87,8 @@ pub number_push_same : (xs : List ℕ) (n : ℕ) → has xs n ≡ false → numb
 number_push_same [] n h = ap (λ b. cond b (Some 0) None) (eq-eqb n n refl)
 number_push_same (x ∷ xs) n h = go (nat_eq n x) h (number_push_same xs n)
   where
-    go : (b : Bool) → (b || has xs n) ≡ false → (has xs n ≡ false → number_of (xs ++ n ∷ []) n ≡ Some (length xs)) → cond b (Some 0) (option_map (λ i. suc i) (number_of (xs ++ n ∷ []) n)) ≡ Some (suc (length xs))
+    go : (b : Bool) → (b || has xs n) ≡ false → (has xs n ≡ false → number_of (xs ++ n ∷ []) n ≡ Some (length xs))
+        → cond b (Some 0) (option_map (λ i. suc i) (number_of (xs ++ n ∷ []) n)) ≡ Some (suc (length xs))
     go true e later = absurd (cc)
     go false e later = ap (option_map (λ i. suc i)) (later e)
 

@@ -1,5 +1,6 @@
 -- The breadth-first order of a graph, and the number of a node in it.
-use Rattle.std.specs.Prelude.{◌≡◌, ℕ, ◌<◌, Bool, List, [], ◌∷◌, ◌++◌, Option, Some, None, suc, nat_eq, if◌then◌else◌, fold, length, take, Contains, slice_index}
+use Rattle.std.specs.Prelude.{◌≡◌, ℕ, ◌<◌, Bool, List, [], ◌∷◌, ◌++◌, Option, Some, None, suc, nat_eq, if◌then◌else◌}
+use Rattle.std.specs.Prelude.{fold, length, take, Contains, slice_index}
 use Rattle.std.specs.List.{list_any, filter_map, flat_map}
 use Rattle.std.specs.Option.{option_map}
 use Rattle.rooted_graph.specs.Rooted.{Rooted, links_of}
@@ -24,7 +25,8 @@ targets g n = filter_map (λ link. link) (links_of g n)
 abbrev pub roots_and_targets : Rooted → List ℕ → List ℕ
 roots_and_targets g s = g.roots ++ flat_map (targets g) s
 
--- The list s is the breadth-first order of a graph: it has the roots and then the targets of its own members, each once, where it comes first; and each member that is no root is the target of an earlier member.
+-- The list s is the breadth-first order of a graph: it has the roots and then the targets of its own members, each
+-- once, where it comes first; and each member that is no root is the target of an earlier member.
 pub record IsBreadthOrder (g : Rooted) (s : List ℕ) : Type 0 where
   pub first : s ≡ first_occurrences (roots_and_targets g s)
   pub earlier : (k : ℕ) → k < length s → Contains (roots_and_targets g (take k s)) (slice_index s k)

@@ -20,7 +20,8 @@ OrdersHoldTheReached = (g : Rooted) (s : List ℕ) → IsBreadthOrder g s → (n
 
 -- two graphs are equal exactly where their orders look the same
 abbrev pub EqualWhereOrdersLookTheSame : Type 0 → Type 0
-EqualWhereOrdersLookTheSame L = (f g : Labelled L) (s t : List ℕ) → IsBreadthOrder f.graph s → IsBreadthOrder g.graph t → SameGraph f g ↔ LooksSame f g s t
+EqualWhereOrdersLookTheSame L = (f g : Labelled L) (s t : List ℕ) → IsBreadthOrder f.graph s → IsBreadthOrder g.graph t
+    → SameGraph f g ↔ LooksSame f g s t
 
 -- each graph is equal to itself
 abbrev pub EqualityIsReflexive : Type 0 → Type 0
@@ -40,7 +41,8 @@ OrderedGraphsAreEqual L = (f : Labelled L) (s : List ℕ) → IsBreadthOrder f.g
 
 -- and its own order is 0, 1, 2 and so on
 abbrev pub OrderedGraphsCountUp : Type 0
-OrderedGraphsCountUp = (g : Rooted) (s : List ℕ) → IsBreadthOrder g s → IsBreadthOrder (graph_in_order g s) (counting_up s)
+OrderedGraphsCountUp = (g : Rooted) (s : List ℕ) → IsBreadthOrder g s
+    → IsBreadthOrder (graph_in_order g s) (counting_up s)
 
 -- a node that is a root twice
 abbrev pub one_node : Labelled ℕ

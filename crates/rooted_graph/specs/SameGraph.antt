@@ -28,7 +28,8 @@ EqualLabels f g n m = f.label n ≡ g.label m
 abbrev pub EndsAlike : {L : Type 0} → Labelled L → Labelled L → Type 0
 EndsAlike f g = (p : Path) → AlikeEnds (EqualLabels f g) (end_of f.graph p) (end_of g.graph p)
 
--- Two graphs are equal: every path ends alike in both, at nodes with equal labels or at no node; two paths meet in one graph exactly where they meet in the other; and the end labels are equal.
+-- Two graphs are equal: every path ends alike in both, at nodes with equal labels or at no node; two paths meet in one
+-- graph exactly where they meet in the other; and the end labels are equal.
 pub record SameGraph {L : Type 0} (f g : Labelled L) : Type 0 where
   pub ends : EndsAlike f g
   pub meet : (p q : Path) → Meet f.graph p q ↔ Meet g.graph p q

@@ -1,7 +1,9 @@
 -- The bytes of a number are the number, and no other bytes of its width are.
-use Rattle.std.proofs.Common.{◌≡◌, ℕ, zero, suc, ◌+◌, ◌*◌, ◌/◌, ◌%◌, ◌^◌, ◌<◌, List, [], ◌∷◌, ◌++◌, length, take, drop, All, refl, sym, ap, ◌∙◌, subst, arith, pow-suc, mod-eq_of_lt, div-lt_iff_lt-mul}
+use Rattle.std.proofs.Common.{◌≡◌, ℕ, zero, suc, ◌+◌, ◌*◌, ◌/◌, ◌%◌, ◌^◌, ◌<◌, List, [], ◌∷◌, ◌++◌, length, take, drop}
+use Rattle.std.proofs.Common.{All, refl, sym, ap, ◌∙◌, subst, arith, pow-suc, mod-eq_of_lt, div-lt_iff_lt-mul}
 use Rattle.std.specs.Prelude.{reverse}
-use Rattle.std.proofs.Math.Nat.{mod-add-div, mod-lt, add-mul-mod_self_left, add-mul-div_left, div-eq_of_lt, mul_assoc, pow-succ'}
+use Rattle.std.proofs.Math.Nat.{mod-add-div, mod-lt, add-mul-mod_self_left, add-mul-div_left, div-eq_of_lt, mul_assoc}
+use Rattle.std.proofs.Math.Nat.{pow-succ'}
 use Rattle.std.proofs.lemmas.List.{length-reverse, reverse-reverse, take-append-drop}
 use Rattle.std.proofs.lemmas.List.Elements.{All-nil, All-cons, All-head, All-tail, All-push}
 use Rattle.std.proofs.lemmas.Grind.{reverse_onto}
@@ -14,7 +16,8 @@ use Rattle.scalar_types.specs.Number.{big_number, little_number, number, little_
 -- ---- in reverse order
 
 -- a byte behind has the greatest power
-little_number-last : (bytes : List ℕ) (b : ℕ) → little_number (bytes ++ b ∷ []) ≡ b * 256 ^ length bytes + little_number bytes
+little_number-last : (bytes : List ℕ) (b : ℕ)
+    → little_number (bytes ++ b ∷ []) ≡ b * 256 ^ length bytes + little_number bytes
 little_number-last [] b = omega arith
 little_number-last (x ∷ xs) b =
     rw (little_number-last xs b, pow-suc 256 (length xs), ← mul_assoc b (256 ^ length xs) 256) (omega arith)
@@ -52,17 +55,20 @@ little_number-of_bytes : (size n : ℕ) → n < 256 ^ size → little_number (li
 unfolding little_bytes
 little_number-of_bytes zero n fits = omega arith
 little_number-of_bytes (suc size) n fits =
-    let below : n / 256 < 256 ^ size = (div-lt_iff_lt-mul (omega arith)).1 (subst (λ m. n < m) (pow-suc 256 size) fits) in
+    let below : n / 256 < 256 ^ size =
+    (div-lt_iff_lt-mul (omega arith)).1 (subst (λ m. n < m) (pow-suc 256 size) fits) in
     ap (λ m. n % 256 + 256 * m) (little_number-of_bytes size (n / 256) below) ∙ mod-add-div n 256
 
-little_bytes-of_number : (bytes : List ℕ) → All (λ b. b < 256) bytes → little_bytes (length bytes) (little_number bytes) ≡ bytes
+little_bytes-of_number : (bytes : List ℕ) → All (λ b. b < 256) bytes
+    → little_bytes (length bytes) (little_number bytes) ≡ bytes
 unfolding little_bytes
 little_bytes-of_number [] all = refl
 little_bytes-of_number (b ∷ bs) all =
     let m : ℕ = little_number bs in
     let byte : b < 256 = All-head (λ b. b < 256) b bs all in
     let first : (b + 256 * m) % 256 ≡ b = add-mul-mod_self_left b 256 m ∙ mod-eq_of_lt byte in
-    let rest : (b + 256 * m) / 256 ≡ m = add-mul-div_left b m (omega arith) ∙ ap (λ k. k + m) (div-eq_of_lt byte) ∙ omega arith in
+    let rest : (b + 256 * m) / 256 ≡ m = add-mul-div_left b m (omega arith) ∙ ap (λ k. k + m) (div-eq_of_lt byte)
+    ∙ omega arith in
     λ i. first i ∷ (ap (little_bytes (length bs)) rest ∙ little_bytes-of_number bs (All-tail (λ b. b < 256) b bs all)) i
 
 little_number-limit : (bytes : List ℕ) → All (λ b. b < 256) bytes → little_number bytes < 256 ^ length bytes
@@ -75,7 +81,9 @@ little_number-limit (b ∷ bs) all =
 little_bytes-limit : (size n : ℕ) → All (λ b. b < 256) (little_bytes size n)
 unfolding little_bytes
 little_bytes-limit zero n = All-nil (λ b. b < 256)
-little_bytes-limit (suc size) n = All-cons (λ b. b < 256) (n % 256) (little_bytes size (n / 256)) (mod-lt n (omega arith)) (little_bytes-limit size (n / 256))
+little_bytes-limit (suc size) n =
+    All-cons (λ b. b < 256) (n % 256) (little_bytes size (n / 256)) (mod-lt n (omega arith))
+    (little_bytes-limit size (n / 256))
 
 -- ---- in either order
 
@@ -85,7 +93,8 @@ bytes_of-length Big width n = length-reverse (little_bytes (size_of width) n) �
 bytes_of-length Little width n = length-little_bytes (size_of width) n
 
 -- the bytes of a number that fits the width are the number
-pub number-bytes_of : (order : Order) (width : Width) (n : ℕ) → n < 256 ^ size_of width → number order (bytes_of order width n) ≡ n
+pub number-bytes_of : (order : Order) (width : Width) (n : ℕ) → n < 256 ^ size_of width
+    → number order (bytes_of order width n) ≡ n
 number-bytes_of Big width n fits =
     big_number-reverse (bytes_of Big width n)
     ∙ ap little_number (reverse-reverse (little_bytes (size_of width) n))
@@ -93,7 +102,8 @@ number-bytes_of Big width n fits =
 number-bytes_of Little width n fits = little_number-of_bytes (size_of width) n fits
 
 -- bytes are the bytes of their number
-pub bytes_of-number : (order : Order) (width : Width) (bytes : List ℕ) → All (λ b. b < 256) bytes → length bytes ≡ size_of width → bytes_of order width (number order bytes) ≡ bytes
+pub bytes_of-number : (order : Order) (width : Width) (bytes : List ℕ) → All (λ b. b < 256) bytes
+    → length bytes ≡ size_of width → bytes_of order width (number order bytes) ≡ bytes
 bytes_of-number Big width bytes all size =
     ap (λ n. reverse (little_bytes (size_of width) n)) (big_number-reverse bytes)
     ∙ ap (λ k. reverse (little_bytes k (little_number (reverse bytes)))) (sym (length-reverse bytes ∙ size))
@@ -111,11 +121,13 @@ number-limit Little bytes all = little_number-limit bytes all
 
 -- each of them is a byte
 pub bytes_of-limit : (order : Order) (width : Width) (n : ℕ) → All (λ b. b < 256) (bytes_of order width n)
-bytes_of-limit Big width n = All-reverse (λ b. b < 256) (little_bytes (size_of width) n) (little_bytes-limit (size_of width) n)
+bytes_of-limit Big width n =
+    All-reverse (λ b. b < 256) (little_bytes (size_of width) n) (little_bytes-limit (size_of width) n)
 bytes_of-limit Little width n = little_bytes-limit (size_of width) n
 
 -- bytes that are the bytes of a number are the number
-pub number-from_bytes : (order : Order) (width : Width) (n : ℕ) (bytes : List ℕ) → n < 256 ^ size_of width → bytes ≡ bytes_of order width n → number order bytes ≡ n
+pub number-from_bytes : (order : Order) (width : Width) (n : ℕ) (bytes : List ℕ) → n < 256 ^ size_of width
+    → bytes ≡ bytes_of order width n → number order bytes ≡ n
 number-from_bytes order width n bytes fits are = ap (number order) are ∙ number-bytes_of order width n fits
 
 -- a number of one byte is that byte in either order

@@ -1,5 +1,6 @@
 -- The length of a printed text.
-use Rattle.std.proofs.Common.{◌≡◌, ℕ, ◌+◌, ◌/◌, ◌^◌, ◌<◌, ◌≤◌, false, nat_le, length, take, get_or, add-one, append-nil, sym, ◌∙◌, ap, arith, length-append}
+use Rattle.std.proofs.Common.{◌≡◌, ℕ, ◌+◌, ◌/◌, ◌^◌, ◌<◌, ◌≤◌, false, nat_le, length, take, get_or, add-one, append-nil}
+use Rattle.std.proofs.Common.{sym, ◌∙◌, ap, arith, length-append}
 use Rattle.std.proofs.lemmas.Bool.Decides.{nat_tests}
 use Rattle.std.proofs.lemmas.Fmt.{decimal_step, decimal_nonempty, length-decimal-le}
 use Rattle.std.proofs.Math.Seq.{take-suc}
@@ -22,7 +23,11 @@ digits-more n large fits =
     ap length (decimal_step n large (omega arith)) ∙ length-append (decimal (n / 10)) _
 
 pub digits-one : (n : ℕ) → n < 10 → length (decimal n) ≡ 1
-digits-one n small = omega (arith, length-decimal-le 1 n (omega arith) small (omega arith), decimal_nonempty n (omega arith))
+digits-one n small = omega (
+  arith,
+  length-decimal-le 1 n (omega arith) small (omega arith),
+  decimal_nonempty n (omega arith),
+)
 
 pub digits-few : (n : ℕ) → n < 2 ^ 32 → length (decimal n) ≤ 10
 digits-few n fits = length-decimal-le 10 n (omega arith) (omega arith) (omega arith)
@@ -35,14 +40,23 @@ length_with-all ty i all =
     length-append (base_text ty.base) (flat_map dim_text ty.dims)
     ∙ ap (λ ds. length (base_text ty.base) + length (flat_map dim_text ds)) (sym (take_all i ty.dims all))
 
-pub length_with-more : (ty : ElementType) (i : ℕ) (d : Dim) → i < length ty.dims → length_with ty (i + 1) ≡ length_with ty i + length (dim_text (get_or ty.dims i d))
+pub length_with-more : (ty : ElementType) (i : ℕ) (d : Dim) → i < length ty.dims
+    → length_with ty (i + 1) ≡ length_with ty i + length (dim_text (get_or ty.dims i d))
 length_with-more ty i d lt =
-    rw (add-one, take-suc ty.dims i d lt, flat_map-append, append-nil (dim_text (get_or ty.dims i d))) (omega (arith, length-append (flat_map dim_text (take i ty.dims)) (dim_text (get_or ty.dims i d))))
+    rw (add-one, take-suc ty.dims i d lt, flat_map-append, append-nil (dim_text (get_or ty.dims i d)))
+    (omega (arith, length-append (flat_map dim_text (take i ty.dims)) (dim_text (get_or ty.dims i d))))
 
-pub length_with-over : (ty : ElementType) (i : ℕ) → i < length ty.dims → 4096 < length_with ty i → nat_le (length (printed ty)) 4096 ≡ false
+pub length_with-over : (ty : ElementType) (i : ℕ) → i < length ty.dims → 4096 < length_with ty i
+    → nat_le (length (printed ty)) 4096 ≡ false
 length_with-over ty i lt over =
     let before = length-flat_map-take dim_text ty.dims i (get_or ty.dims i (Numeral 0)) lt in
-    long (length (printed ty)) (omega (arith, before, length_with-all ty (length ty.dims) (omega arith), ap (λ ds. length (flat_map dim_text ds)) (take_all (length ty.dims) ty.dims (omega arith))))
+    long (length (printed ty))
+    (omega (
+      arith,
+      before,
+      length_with-all ty (length ty.dims) (omega arith),
+      ap (λ ds. length (flat_map dim_text ds)) (take_all (length ty.dims) ty.dims (omega arith)),
+    ))
   where
     long : (n : ℕ) → 4096 < n → nat_le n 4096 ≡ false
     long n h = grind (arith, nat_tests)

@@ -1,5 +1,6 @@
 -- The tokens at the front of a text.
-use Rattle.std.proofs.Common.{◌≡◌, ℕ, zero, suc, ◌+◌, ◌<◌, ◌≤◌, Bool, true, false, cond, eqb, List, [], ◌∷◌, length, get_or, take, drop, Some, None, refl, sym, ◌∙◌, ap, arith, drop-cons, add-one, eq-eqb}
+use Rattle.std.proofs.Common.{◌≡◌, ℕ, zero, suc, ◌+◌, ◌<◌, ◌≤◌, Bool, true, false, cond, eqb, List, [], ◌∷◌, length}
+use Rattle.std.proofs.Common.{get_or, take, drop, Some, None, refl, sym, ◌∙◌, ap, arith, drop-cons, add-one, eq-eqb}
 use Rattle.std.proofs.lemmas.Bool.Decides.{nat_tests}
 use Rattle.type_text.specs.Tokens.{Token, Word, Mark, tokens, extended, is_blank, is_word_byte, is_mark, begins_word}
 use Rattle.type_text.specs.Steps.{first_word, after_mark, no_token, begins_blank}
@@ -13,21 +14,27 @@ pub tokens-blank : (b : ℕ) (bs : List ℕ) → is_blank b ≡ true → tokens 
 unfolding tokens
 tokens-blank b bs h = rw h refl
 
-pub tokens-blank_more : (bs : List ℕ) (i : ℕ) → i < length bs → is_blank (get_or bs i 0) ≡ true → tokens (drop (i + 1) bs) ≡ tokens (drop i bs)
-tokens-blank_more bs i h blank = rw (add-one, drop-cons bs i 0) (sym (tokens-blank (get_or bs i 0) (drop (suc i) bs) blank))
+pub tokens-blank_more : (bs : List ℕ) (i : ℕ) → i < length bs → is_blank (get_or bs i 0) ≡ true
+    → tokens (drop (i + 1) bs) ≡ tokens (drop i bs)
+tokens-blank_more bs i h blank =
+    rw (add-one, drop-cons bs i 0) (sym (tokens-blank (get_or bs i 0) (drop (suc i) bs) blank))
 
 -- a last byte of a word
-pub tokens-word_end : (b : ℕ) (bs : List ℕ) → is_word_byte b ≡ true → begins_word bs ≡ false → tokens (b ∷ bs) ≡ Word (b ∷ []) ∷ tokens bs
+pub tokens-word_end : (b : ℕ) (bs : List ℕ) → is_word_byte b ≡ true → begins_word bs ≡ false
+    → tokens (b ∷ bs) ≡ Word (b ∷ []) ∷ tokens bs
 unfolding tokens
 tokens-word_end b bs h end = rw (blank-word_byte b h, h, end) refl
 
 -- a byte of a word that goes on
-pub tokens-word_more : (b : ℕ) (bs : List ℕ) → is_word_byte b ≡ true → begins_word bs ≡ true → tokens (b ∷ bs) ≡ extended b (tokens bs)
+pub tokens-word_more : (b : ℕ) (bs : List ℕ) → is_word_byte b ≡ true → begins_word bs ≡ true
+    → tokens (b ∷ bs) ≡ extended b (tokens bs)
 unfolding tokens
 tokens-word_more b bs h more = rw (blank-word_byte b h, h, more) refl
 
 -- a longest run of bytes of a word is the first token
-pub tokens-word : (n : ℕ) (bs : List ℕ) → 0 < n → n ≤ length bs → ((k : ℕ) → k < n → is_word_byte (get_or bs k 0) ≡ true) → begins_word (drop n bs) ≡ false → tokens bs ≡ Word (take n bs) ∷ tokens (drop n bs)
+pub tokens-word : (n : ℕ) (bs : List ℕ) → 0 < n → n ≤ length bs
+    → ((k : ℕ) → k < n → is_word_byte (get_or bs k 0) ≡ true) → begins_word (drop n bs) ≡ false
+    → tokens bs ≡ Word (take n bs) ∷ tokens (drop n bs)
 tokens-word zero bs pos fits run end = absurd (omega arith)
 tokens-word (suc n) [] pos fits run end = absurd (omega arith)
 tokens-word (suc zero) (b ∷ bs) pos fits run end = tokens-word_end b bs (run 0 (omega arith)) end
@@ -37,7 +44,8 @@ tokens-word (suc (suc n)) (b ∷ c ∷ bs) pos fits run end =
     ∙ ap (extended b) (tokens-word (suc n) (c ∷ bs) (omega arith) (omega arith) (λ k h. run (suc k) (omega arith)) end)
 
 -- a token of its own
-pub tokens-mark : (b : ℕ) (bs : List ℕ) → is_blank b ≡ false → is_word_byte b ≡ false → tokens (b ∷ bs) ≡ Mark b ∷ tokens bs
+pub tokens-mark : (b : ℕ) (bs : List ℕ) → is_blank b ≡ false → is_word_byte b ≡ false
+    → tokens (b ∷ bs) ≡ Mark b ∷ tokens bs
 unfolding tokens
 tokens-mark b bs h w = rw (h, w) refl
 
@@ -64,11 +72,13 @@ after_mark-word_byte m b bs h = by (begins_word bs) refl
 word_byte-mark : (b m : ℕ) → is_mark m ≡ true → is_word_byte b ≡ true → eqb b m ≡ false
 word_byte-mark b m h w = grind (arith, nat_tests)
 
-pub after_mark-front : (m b : ℕ) (bs : List ℕ) → is_mark m ≡ true → is_blank b ≡ false → after_mark m (tokens (b ∷ bs)) ≡ cond (eqb b m) (Some (tokens bs)) None
+pub after_mark-front : (m b : ℕ) (bs : List ℕ) → is_mark m ≡ true → is_blank b ≡ false
+    → after_mark m (tokens (b ∷ bs)) ≡ cond (eqb b m) (Some (tokens bs)) None
 after_mark-front m b bs mark blank = by (is_word_byte b) refl
   where
     by : (e : Bool) → is_word_byte b ≡ e → after_mark m (tokens (b ∷ bs)) ≡ cond (eqb b m) (Some (tokens bs)) None
-    by true e = after_mark-word_byte m b bs e ∙ sym (ap (λ t. cond t (Some (tokens bs)) None) (word_byte-mark b m mark e))
+    by true e = after_mark-word_byte m b bs e
+        ∙ sym (ap (λ t. cond t (Some (tokens bs)) None) (word_byte-mark b m mark e))
     by false e = ap (after_mark m) (tokens-mark b bs blank e)
 
 -- a byte that is no blank makes a token
@@ -105,13 +115,17 @@ mark-blank b m h e = grind (arith, nat_tests)
 eqb-other : (b m : ℕ) → ¬ (b ≡ m) → eqb b m ≡ false
 eqb-other b m h = grind (arith, nat_tests)
 
-pub after_mark-same : (m : ℕ) (bs : List ℕ) → is_mark m ≡ true → 0 < length bs → get_or bs 0 0 ≡ m → after_mark m (tokens bs) ≡ Some (tokens (drop 1 bs))
+pub after_mark-same : (m : ℕ) (bs : List ℕ) → is_mark m ≡ true → 0 < length bs → get_or bs 0 0 ≡ m
+    → after_mark m (tokens bs) ≡ Some (tokens (drop 1 bs))
 after_mark-same m [] mark long e = absurd (omega arith)
-after_mark-same m (b ∷ bs) mark long e = after_mark-front m b bs mark (mark-blank b m mark e) ∙ ap (λ t. cond t (Some (tokens bs)) None) (eq-eqb b m e)
+after_mark-same m (b ∷ bs) mark long e = after_mark-front m b bs mark (mark-blank b m mark e)
+    ∙ ap (λ t. cond t (Some (tokens bs)) None) (eq-eqb b m e)
 
-pub after_mark-other : (m : ℕ) (bs : List ℕ) → is_mark m ≡ true → begins_blank bs ≡ false → 0 < length bs → ¬ (get_or bs 0 0 ≡ m) → after_mark m (tokens bs) ≡ None
+pub after_mark-other : (m : ℕ) (bs : List ℕ) → is_mark m ≡ true → begins_blank bs ≡ false → 0 < length bs
+    → ¬ (get_or bs 0 0 ≡ m) → after_mark m (tokens bs) ≡ None
 after_mark-other m [] mark blank long e = absurd (omega arith)
-after_mark-other m (b ∷ bs) mark blank long e = after_mark-front m b bs mark blank ∙ ap (λ t. cond t (Some (tokens bs)) None) (eqb-other b m e)
+after_mark-other m (b ∷ bs) mark blank long e = after_mark-front m b bs mark blank
+    ∙ ap (λ t. cond t (Some (tokens bs)) None) (eqb-other b m e)
 
 pub after_mark-nil : (m : ℕ) (bs : List ℕ) → bs ≡ [] → after_mark m (tokens bs) ≡ None
 unfolding tokens

@@ -1,5 +1,6 @@
 -- What a scan finds at the front of a text's tokens.
-use Rattle.std.specs.Prelude.{ℕ, Bool, true, false, ◌==◌, if◌then◌else◌, List, [], ◌∷◌, Option, Some, None, option_and_then}
+use Rattle.std.specs.Prelude.{ℕ, Bool, true, false, ◌==◌, if◌then◌else◌, List, [], ◌∷◌, Option, Some, None}
+use Rattle.std.specs.Prelude.{option_and_then}
 use Rattle.std.specs.Option.{option_map}
 use Rattle.type_text.specs.Tokens.{Token, Word, Mark, is_blank}
 use Rattle.type_text.specs.TypeText.{dims_of, dim_of, with_dim, is_name, with_dims, within_limit}

@@ -1,5 +1,6 @@
 -- The tokens of a type text.
-use Rattle.std.specs.Prelude.{◌≡◌, ℕ, ◌<◌, Bool, true, false, not, ◌==◌, ◌||◌, if◌then◌else◌, List, [], ◌∷◌, ◌++◌, length}
+use Rattle.std.specs.Prelude.{◌≡◌, ℕ, ◌<◌, Bool, true, false, not, ◌==◌, ◌||◌, if◌then◌else◌, List, [], ◌∷◌, ◌++◌}
+use Rattle.std.specs.Prelude.{length}
 use Rattle.std.specs.List.{list_all}
 use Rattle.std.specs.Char.{is_ascii_alphanumeric}
 
@@ -38,12 +39,16 @@ extended b ts = Word (b ∷ []) ∷ ts
 unfoldable pub tokens : List ℕ → List Token
 tokens [] = []
 tokens (b ∷ bs) =
-    if is_blank b then tokens bs else (if is_word_byte b then (if begins_word bs then extended b (tokens bs) else Word (b ∷ []) ∷ tokens bs) else Mark b ∷ tokens bs)
+    if is_blank b then tokens bs
+    else (if is_word_byte b then (if begins_word bs then extended b (tokens bs) else Word (b ∷ []) ∷ tokens bs)
+    else Mark b ∷ tokens bs)
 
 -- A text spells tokens where blanks alone stand before, between and after them, and no word goes on behind its end.
 abbrev pub IsSpelling : List Token → List ℕ → Type 0
 IsSpelling [] text = list_all is_blank text ≡ true
 IsSpelling (Word w ∷ ts) text =
-    (blanks rest : List ℕ) × (list_all is_blank blanks ≡ true) × IsWord w × (begins_word rest ≡ false) × (text ≡ blanks ++ w ++ rest) × IsSpelling ts rest
+    (blanks rest : List ℕ) × (list_all is_blank blanks ≡ true) × IsWord w × (begins_word rest ≡ false)
+    × (text ≡ blanks ++ w ++ rest) × IsSpelling ts rest
 IsSpelling (Mark b ∷ ts) text =
-    (blanks rest : List ℕ) × (list_all is_blank blanks ≡ true) × (is_mark b ≡ true) × (text ≡ blanks ++ b ∷ rest) × IsSpelling ts rest
+    (blanks rest : List ℕ) × (list_all is_blank blanks ≡ true) × (is_mark b ≡ true) × (text ≡ blanks ++ b ∷ rest)
+    × IsSpelling ts rest

@@ -1,5 +1,7 @@
--- The grammar of type texts, and the printed text of a type. The base words are the data types of the Common Data Frame Format (LIGO-T970130 v8), an array's dimensions follow in brackets as it writes them.
-use Rattle.std.specs.Prelude.{◌≡◌, ℕ, ◌≤◌, Bool, false, not, ◌==◌, ◌&&◌, nat_le, if◌then◌else◌, List, [], ◌∷◌, ◌++◌, length, find, codes, Option, Some, None, option_and_then}
+-- The grammar of type texts, and the printed text of a type. The base words are the data types of the Common Data Frame
+-- Format (LIGO-T970130 v8), an array's dimensions follow in brackets as it writes them.
+use Rattle.std.specs.Prelude.{◌≡◌, ℕ, ◌≤◌, Bool, false, not, ◌==◌, ◌&&◌, nat_le, if◌then◌else◌, List, [], ◌∷◌, ◌++◌}
+use Rattle.std.specs.Prelude.{length, find, codes, Option, Some, None, option_and_then}
 use Rattle.std.specs.Option.{option_map}
 use Rattle.std.specs.List.{flat_map}
 use Rattle.std.specs.Str.{bytes_eq, all_ascii_digits}
@@ -8,7 +10,8 @@ use Rattle.std.specs.Char.{is_ascii_digit}
 use Rattle.std.specs.Fmt.{decimal}
 use Rattle.type_text.specs.Tokens.{Token, Word, Mark, tokens, IsSpelling}
 use Rattle.type_text.specs.declared.types.Base.{Base}
-use Rattle.type_text.specs.declared.types.Base.TheVariants.{Int1S, Int1U, Int2S, Int2U, Int4S, Int4U, Int8S, Int8U, Real4, Real8, Complex8, Complex16, Char, CharU, Str, Ptr}
+use Rattle.type_text.specs.declared.types.Base.TheVariants.{Int1S, Int1U, Int2S, Int2U, Int4S, Int4U, Int8S, Int8U}
+use Rattle.type_text.specs.declared.types.Base.TheVariants.{Real4, Real8, Complex8, Complex16, Char, CharU, Str, Ptr}
 use Rattle.type_text.specs.declared.types.Dim.{Dim}
 use Rattle.type_text.specs.declared.types.Dim.TheVariants.{Numeral, Named}
 use Rattle.type_text.specs.declared.types.ElementType.{ElementType}
@@ -35,7 +38,8 @@ word_of (Ptr to) = codes "PTR_STRUCT"
 -- the bases that a word names alone
 unfoldable pub plain_bases : List Base
 plain_bases =
-    Int1S ∷ Int1U ∷ Int2S ∷ Int2U ∷ Int4S ∷ Int4U ∷ Int8S ∷ Int8U ∷ Real4 ∷ Real8 ∷ Complex8 ∷ Complex16 ∷ Char ∷ CharU ∷ Str ∷ []
+    Int1S ∷ Int1U ∷ Int2S ∷ Int2U ∷ Int4S ∷ Int4U ∷ Int8S ∷ Int8U ∷ Real4 ∷ Real8 ∷ Complex8 ∷ Complex16 ∷ Char
+    ∷ CharU ∷ Str ∷ []
 
 -- the base that a word names
 unfoldable pub base_of : List ℕ → Option Base
@@ -73,7 +77,8 @@ pointed_of _ = None
 -- the base in front, which is a base word, or PTR_STRUCT with a name and a star in parentheses; and the tokens behind
 unfoldable pub base_in_front : List Token → Option (Base × List Token)
 base_in_front (Word w ∷ ts) =
-    if bytes_eq w (codes "PTR_STRUCT") then option_map (λ found. (Ptr found.0, found.1)) (pointed_of ts) else option_map (λ base. (base, ts)) (base_of w)
+    if bytes_eq w (codes "PTR_STRUCT") then option_map (λ found. (Ptr found.0, found.1)) (pointed_of ts)
+    else option_map (λ base. (base, ts)) (base_of w)
 base_in_front _ = None
 
 -- the type of a base and the tokens behind it, which are its dimensions
@@ -109,7 +114,8 @@ type_of text = if nat_le (length text) 4096 then within_limit (type_of_tokens (t
 -- A text is this type where both it and the printed text have at most 4,096 bytes and it spells tokens of the type.
 abbrev pub IsTypeText : List ℕ → ElementType → Type 0
 IsTypeText text ty =
-    (length text ≤ 4096) × (length (printed ty) ≤ 4096) × ((ts : List Token) × IsSpelling ts text × (type_of_tokens ts ≡ Some ty))
+    (length text ≤ 4096) × (length (printed ty) ≤ 4096)
+    × ((ts : List Token) × IsSpelling ts text × (type_of_tokens ts ≡ Some ty))
 
 -- some text reads as this type
 abbrev pub IsType : ElementType → Type 0

@@ -9,9 +9,11 @@ returns-clause-classes c =
     let same = c.in_ok-reserve.ensures.entries in
     let pushed = rw c.unwrap.ensures at c.insert-2.ensures.entries in
     pushed
-    ∙ insert_entry-new eqb c.reserve.new.self c.args.class c.args.entry (ap (lookup (eqb c.args.class)) same ∙ c.requires)
+    ∙ insert_entry-new eqb c.reserve.new.self c.args.class c.args.entry
+    (ap (lookup (eqb c.args.class)) same ∙ c.requires)
     ∙ ap (λ entries. entries ++ (c.args.class, c.args.entry) ∷ []) same
 
 pub returns-clause-names : goal.returns-clause-names
 returns-clause-names c =
-    Puts-from_updates c.args.by_name.now c.insert.new.self c.in_ok-name.name c.args.entry.name c.args.class (c.in_ok-name.ensures.items ∙ c.bytes.ensures) c.in_ok-insert.ensures.updates
+    Puts-from_updates c.args.by_name.now c.insert.new.self c.in_ok-name.name c.args.entry.name c.args.class
+    (c.in_ok-name.ensures.items ∙ c.bytes.ensures) c.in_ok-insert.ensures.updates

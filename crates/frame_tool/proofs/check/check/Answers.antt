@@ -9,20 +9,25 @@ use Rattle.frame_tool.proofs.check.check.Goals as goal
 pub returns-in_err-next-clause-fault : goal.returns-in_err-next-clause-fault
 returns-in_err-next-clause-fault g c = λ fault is file told.
     let was : c.next.result ≡ Err (error.Fault fault) = search rules in
-    let here : file_of (g.S.Shelf.outside c.items.shelf) c.items.reader.slot ≡ Some file = rw c.items.invariant.slot (file_of-drawn _ _ _ c.items.invariant.draws ∙ told) in
+    let here : file_of (g.S.Shelf.outside c.items.shelf) c.items.reader.slot ≡ Some file =
+    rw c.items.invariant.slot (file_of-drawn _ _ _ c.items.invariant.draws ∙ told) in
     c.next.ensures.fault fault was c.items.invariant.error file here
 
 pub returns-in_err-next-clause-draws : goal.returns-in_err-next-clause-draws
-returns-in_err-next-clause-draws g c = draws_more _ _ _ _ c.items.invariant.draws (subst (Draws _ _) c.items.invariant.slot c.next.ensures.draws)
+returns-in_err-next-clause-draws g c =
+    draws_more _ _ _ _ c.items.invariant.draws (subst (Draws _ _) c.items.invariant.slot c.next.ensures.draws)
 
 pub returns-in-FileEnd-clause-finding : goal.returns-in-FileEnd-clause-finding
 returns-in-FileEnd-clause-finding g c = λ file told.
-    let here : file_of (g.S.Shelf.outside c.items.shelf) c.items.reader.slot ≡ Some file = rw c.items.invariant.slot (file_of-drawn _ _ _ c.items.invariant.draws ∙ told) in
+    let here : file_of (g.S.Shelf.outside c.items.shelf) c.items.reader.slot ≡ Some file =
+    rw c.items.invariant.slot (file_of-drawn _ _ _ c.items.invariant.draws ∙ told) in
     let ended = c.in_ok-next.ensures.end (subst IsFileEnd (sym c.in-FileEnd.is) tt) file here in
-    rw c.order.ensures (rw c.frames.ensures (rw c.records.ensures (rw c.place.ensures (accepted file c.next.new.self ended))))
+    rw c.order.ensures (rw c.frames.ensures
+    (rw c.records.ensures (rw c.place.ensures (accepted file c.next.new.self ended))))
 
 pub returns-in-FileEnd-clause-draws : goal.returns-in-FileEnd-clause-draws
-returns-in-FileEnd-clause-draws g c = draws_more _ _ _ _ c.items.invariant.draws (subst (Draws _ _) c.items.invariant.slot c.next.ensures.draws)
+returns-in-FileEnd-clause-draws g c =
+    draws_more _ _ _ _ c.items.invariant.draws (subst (Draws _ _) c.items.invariant.slot c.next.ensures.draws)
 
 pub items-preserved : goal.items-preserved
 items-preserved g c = record {

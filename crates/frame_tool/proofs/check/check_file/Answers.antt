@@ -18,4 +18,5 @@ returns-in-Err-NoMemory-clause-shelf g c = reads_one _ _ _ _ _ _ c.in_ok-slot.en
 
 pub returns-in-Err-Fault-clause-finding : goal.returns-in-Err-Fault-clause-finding
 returns-in-Err-Fault-clause-finding g c = λ files told file held.
-    c.check.ensures.fault c.in-Err-Fault.fault (c.in-Err-Fault.is ∙ ap Err c.in-Err-Fault.field-0-is) file (file_of-opened _ _ _ _ c.in_ok-slot.ensures.ok files file told held)
+    c.check.ensures.fault c.in-Err-Fault.fault (c.in-Err-Fault.is ∙ ap Err c.in-Err-Fault.field-0-is) file
+    (file_of-opened _ _ _ _ c.in_ok-slot.ensures.ok files file told held)

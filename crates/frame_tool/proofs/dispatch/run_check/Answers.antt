@@ -8,19 +8,25 @@ use Rattle.frame_tool.proofs.dispatch.run_check.Goals as goal
 
 pub returns-in-Ok-clause-answer : goal.returns-in-Ok-clause-answer
 returns-in-Ok-clause-answer g c = λ files told reply due.
-    let same = due_is_found IsFinding check_reply no_two_findings (files c.args.file.now) c.in-Ok.finding reply (c.in-Ok.ensures.finding files told) (λ none. no_error _ _ (c.in-Ok.ensures.missing files told none)) due in
+    let same = due_is_found IsFinding check_reply no_two_findings (files c.args.file.now) c.in-Ok.finding reply
+    (c.in-Ok.ensures.finding files told) (λ none. no_error _ _ (c.in-Ok.ensures.missing files told none)) due in
     subst (λ (r : Reply). IsAnswer c.answer_check.result r.outcome) (sym same) c.answer_check.ensures.answer
 
 pub returns-in-Ok-clause-text : goal.returns-in-Ok-clause-text
 returns-in-Ok-clause-text g c = λ files told reply due.
-    let same = due_is_found IsFinding check_reply no_two_findings (files c.args.file.now) c.in-Ok.finding reply (c.in-Ok.ensures.finding files told) (λ none. no_error _ _ (c.in-Ok.ensures.missing files told none)) due in
-    subst (λ (r : Reply). Prints c.answer_check.result r.text (g.O.Sink.output c.args.out.now) (g.O.Sink.output c.answer_check.new.out)) (sym same) c.answer_check.ensures.text
+    let same = due_is_found IsFinding check_reply no_two_findings (files c.args.file.now) c.in-Ok.finding reply
+    (c.in-Ok.ensures.finding files told) (λ none. no_error _ _ (c.in-Ok.ensures.missing files told none)) due in
+    subst (λ (r : Reply). Prints c.answer_check.result r.text (g.O.Sink.output c.args.out.now)
+    (g.O.Sink.output c.answer_check.new.out)) (sym same) c.answer_check.ensures.text
 
 pub returns-in-Ok-clause-misses : goal.returns-in-Ok-clause-misses
-returns-in-Ok-clause-misses g c = λ files told rose. misses_due IsFinding check_reply _ _ files _ c.in-Ok.ensures.shelf told rose
+returns-in-Ok-clause-misses g c =
+    λ files told rose. misses_due IsFinding check_reply _ _ files _ c.in-Ok.ensures.shelf told rose
 
 pub returns-in-Err-Failed-clause-misses : goal.returns-in-Err-Failed-clause-misses
-returns-in-Err-Failed-clause-misses g c = λ files told rose. misses_due IsFinding check_reply _ _ files _ c.check_file.ensures.shelf told rose
+returns-in-Err-Failed-clause-misses g c =
+    λ files told rose. misses_due IsFinding check_reply _ _ files _ c.check_file.ensures.shelf told rose
 
 pub returns-in-Err-NoMemory-clause-misses : goal.returns-in-Err-NoMemory-clause-misses
-returns-in-Err-NoMemory-clause-misses g c = λ files told rose. misses_due IsFinding check_reply _ _ files _ c.check_file.ensures.shelf told rose
+returns-in-Err-NoMemory-clause-misses g c =
+    λ files told rose. misses_due IsFinding check_reply _ _ files _ c.check_file.ensures.shelf told rose

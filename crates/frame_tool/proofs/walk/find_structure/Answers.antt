@@ -11,7 +11,8 @@ skip-requires g c = (gone_once _ _ _ _ _ c.requires.source c.in_ok-read.ensures.
 
 pub returns-in_err-passed-clause-refused : goal.returns-in_err-passed-clause-refused
 returns-in_err-passed-clause-refused g c =
-    on_err _ (gone_refused _ _ _ _ _ _ (gone_once _ _ _ _ _ c.requires.source c.in_ok-read.ensures.advances) c.in_err-passed.ensures.refused.draws)
+    on_err _ (gone_refused _ _ _ _ _ _ (gone_once _ _ _ _ _ c.requires.source c.in_ok-read.ensures.advances)
+    c.in_err-passed.ensures.refused.draws)
 
 pub returns-clause-found : goal.returns-clause-found
 returns-clause-found g c = λ rest told.
@@ -22,9 +23,11 @@ returns-clause-found g c = λ rest told.
 
 pub returns-clause-moves : goal.returns-clause-moves
 returns-clause-moves g c =
-    let gone = gone_more _ _ _ _ _ _ _ _ (gone_once _ _ _ _ _ c.requires.source c.in_ok-read.ensures.advances) c.in_ok-passed.ensures.advances in
+    let gone = gone_more _ _ _ _ _ _ _ _ (gone_once _ _ _ _ _ c.requires.source c.in_ok-read.ensures.advances)
+    c.in_ok-passed.ensures.advances in
     let size : length c.read.new.into ≡ 14 = search rules in
     let within : c.in_ok-read.read + c.in_ok-passed.passed ≤ 14 + body_size_of c.read_common-length.result.length =
     omega (arith, c.in_ok-read.ensures.room, c.in_ok-passed.ensures.room, c.body_size.ensures, size) in
-    moves_judged _ _ _ _ c.args.at (c.in_ok-read.read + c.in_ok-passed.passed) c.read_common-length.result.length c.judge.result gone.advances within
+    moves_judged _ _ _ _ c.args.at (c.in_ok-read.read + c.in_ok-passed.passed) c.read_common-length.result.length
+    c.judge.result gone.advances within
     (c.judge.ensures _ _ (omega (arith, within)) (λ _. refl))

@@ -18,19 +18,29 @@ loop-field-init c =
 
 pub returns-then-not-field_fits : goal.returns-then-not-field_fits
 returns-then-not-field_fits c =
-    let tells = rw c.put_numbers.ensures at c.if-not-field_fits.ensures in
-    (λ no. cc, λ fit. tells.1 ((AllZip-step _ _ _ _ _ _ _ c.in-Some.ensures.steps).0 (c.loop-field.invariant.rest.1 fit)).0)
+    let tells = rw c.put_numbers.ensures at c.if-not-field_fits.ensures in (
+      λ no. cc,
+      λ fit. tells.1
+          ((AllZip-step _ _ _ _ _ _ _ c.in-Some.ensures.steps).0 (c.loop-field.invariant.rest.1 fit)).0,
+    )
 
 pub loop-field-preserved : goal.loop-field-preserved
 loop-field-preserved c =
     let tells = rw c.put_numbers.ensures at c.if-not-field_fits.ensures in
-    let step = AllZip-step (λ f v. FitsField (map number_of c.args.values.now) f.form f.counts v) _ _ _ _ _ _ c.in-Some.ensures.steps in
+    let step = AllZip-step (λ f v. FitsField (map number_of c.args.values.now) f.form f.counts v) _ _ _ _ _ _
+    c.in-Some.ensures.steps in
     record {
-      rest =
-          (λ more. c.loop-field.invariant.rest.0 (step.1 (tells.0 refl, more)), λ fit. (step.0 (c.loop-field.invariant.rest.1 fit)).1);
+      rest = (
+        λ more. c.loop-field.invariant.rest.0 (step.1 (tells.0 refl, more)),
+        λ fit. (step.0 (c.loop-field.invariant.rest.1 fit)).1,
+      );
       long = length-step _ _ _ _ _ _ c.in-Some.ensures.steps c.loop-field.invariant.long;
     }
 
 pub returns : goal.returns
-returns c =
-    (λ yes. c.loop-field.invariant.rest.0 (AllZip-end _ _ _ (either_empty_from_Zip c.loop-field.field-iterator c.next.new.self c.next.result c.in-None.is c.next.ensures.steps) c.loop-field.invariant.long), λ fit. search rules)
+returns c = (
+  λ yes. c.loop-field.invariant.rest.0
+      (AllZip-end _ _ _ (either_empty_from_Zip c.loop-field.field-iterator c.next.new.self c.next.result c.in-None.is
+      c.next.ensures.steps) c.loop-field.invariant.long),
+  λ fit. search rules,
+)

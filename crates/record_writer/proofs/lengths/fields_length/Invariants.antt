@@ -6,6 +6,7 @@ use Rattle.record_writer.proofs.lengths.fields_length.Given as goal
 
 abbrev pub invariant-loop-field : goal.invariant-loop-field
 invariant-loop-field l = record {
-  so_far : l.length + values_length (iter_rest (zip_first l.field-iterator)) (iter_rest (zip_second l.field-iterator)) ≡ values_length l.fields l.values;
+  so_far : l.length + values_length (iter_rest (zip_first l.field-iterator)) (iter_rest (zip_second l.field-iterator))
+      ≡ values_length l.fields l.values;
   fits : l.length < 2 ^ 64;
 }

@@ -16,5 +16,6 @@ invariant-loop-field l =
     let numbers = map number_of l.values in
     record {
       fit : AllZip (λ f v. FitsField numbers f.form f.counts v) fields values;
-      written : Appends (AreFieldsBefore (IsClosedText l.order) l.order numbers l.fields l.values fields values) l.initial.into.items l.into.items;
+      written : Appends (AreFieldsBefore (IsClosedText l.order) l.order numbers l.fields l.values fields values)
+          l.initial.into.items l.into.items;
     }

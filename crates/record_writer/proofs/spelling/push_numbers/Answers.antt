@@ -8,11 +8,14 @@ pub loop-number-init : goal.loop-number-init
 loop-number-init c = items_none (IsNumber c.args.order c.args.width) c.args.numbers.now c.args.into.now.items
 
 pub returns-in_err-push_number : goal.returns-in_err-push_number
-returns-in_err-push_number c = Appends-refused _ _ _ _ _ _ _ c.from_residual.ensures.0 c.loop-number.invariant c.push_number.ensures
+returns-in_err-push_number c =
+    Appends-refused _ _ _ _ _ _ _ c.from_residual.ensures.0 c.loop-number.invariant c.push_number.ensures
 
 pub loop-number-preserved : goal.loop-number-preserved
 loop-number-preserved c =
-    items_more (IsNumber c.args.order c.args.width) c.args.numbers.now c.loop-number.number-index 0 _ _ _ _ (search rules) refl c.loop-number.invariant c.in_ok-push_number.ensures
+    items_more (IsNumber c.args.order c.args.width) c.args.numbers.now c.loop-number.number-index 0 _ _ _ _
+    (search rules) refl c.loop-number.invariant c.in_ok-push_number.ensures
 
 pub returns : goal.returns
-returns c = items_all (IsNumber c.args.order c.args.width) c.args.numbers.now c.loop-number.number-index _ _ (search rules) c.loop-number.invariant
+returns c = items_all (IsNumber c.args.order c.args.width) c.args.numbers.now c.loop-number.number-index _ _
+    (search rules) c.loop-number.invariant

@@ -8,11 +8,14 @@ pub loop-pair-init : goal.loop-pair-init
 loop-pair-init c = items_none (IsPair c.args.order c.args.width) c.args.pairs.now c.args.into.now.items
 
 pub returns-in_err-push_pair : goal.returns-in_err-push_pair
-returns-in_err-push_pair c = Appends-refused _ _ _ _ _ _ _ c.from_residual.ensures.0 c.loop-pair.invariant c.push_pair.ensures
+returns-in_err-push_pair c =
+    Appends-refused _ _ _ _ _ _ _ c.from_residual.ensures.0 c.loop-pair.invariant c.push_pair.ensures
 
 pub loop-pair-preserved : goal.loop-pair-preserved
 loop-pair-preserved c =
-    items_more (IsPair c.args.order c.args.width) c.args.pairs.now c.loop-pair.pair-index (0, 0) _ _ _ _ (search rules) refl c.loop-pair.invariant c.in_ok-push_pair.ensures
+    items_more (IsPair c.args.order c.args.width) c.args.pairs.now c.loop-pair.pair-index (0, 0) _ _ _ _ (search rules)
+    refl c.loop-pair.invariant c.in_ok-push_pair.ensures
 
 pub returns : goal.returns
-returns c = items_all (IsPair c.args.order c.args.width) c.args.pairs.now c.loop-pair.pair-index _ _ (search rules) c.loop-pair.invariant
+returns c = items_all (IsPair c.args.order c.args.width) c.args.pairs.now c.loop-pair.pair-index _ _ (search rules)
+    c.loop-pair.invariant

@@ -15,6 +15,10 @@ same (Some x) = refl
 pub returns : goal.returns
 unfolding base_of
 returns c =
-    let chain = YieldsList-from_shown array_steps (λ x. x) array_into_iter_items (λ s t h. h.0) (λ s x t h. h) c.into_iter.result in
-    let found = find_from_yields_List (λ base. bytes_eq (word_of base) c.args.word.now) _ _ c.find.result c.find.ensures.ran chain (λ x b q k. search (rules, tests)) in
-    sym (same c.find.result) ∙ found ∙ ap (find (λ base. bytes_eq (word_of base) c.args.word.now)) (c.into_iter.ensures.into_iter_gives.0 ∙ c.plain_bases.ensures)
+    let chain = YieldsList-from_shown array_steps (λ x. x) array_into_iter_items (λ s t h. h.0) (λ s x t h. h)
+    c.into_iter.result in
+    let found = find_from_yields_List (λ base. bytes_eq (word_of base) c.args.word.now) _ _ c.find.result
+    c.find.ensures.ran chain (λ x b q k. search (rules, tests)) in
+    sym (same c.find.result) ∙ found
+    ∙ ap (find (λ base. bytes_eq (word_of base) c.args.word.now)) (c.into_iter.ensures.into_iter_gives.0
+    ∙ c.plain_bases.ensures)

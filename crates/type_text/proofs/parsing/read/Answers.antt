@@ -12,14 +12,18 @@ returns-in_default c = sym (type_of-none c.args.text.now c.if-text-gt-TEXT_LIMIT
 
 pub returns-then-is_pointer_word : goal.returns-then-is_pointer_word
 returns-then-is_pointer_word c =
-    let same = type_of-pointer c.args.text.now c.in-Some.word.now (tokens c.in-Some.rest.now) c.if-text-gt-TEXT_LIMIT.false (sym c.in-Some.ensures) (sym c.if-is_pointer_word.ensures) in
+    let same = type_of-pointer c.args.text.now c.in-Some.word.now (tokens c.in-Some.rest.now)
+    c.if-text-gt-TEXT_LIMIT.false (sym c.in-Some.ensures) (sym c.if-is_pointer_word.ensures) in
     search (rules, IfOk-equal)
 
 pub returns-in-Some-base_named : goal.returns-in-Some-base_named
 returns-in-Some-base_named c =
-    let same = type_of-plain c.args.text.now c.in-Some.word.now (tokens c.in-Some.rest.now) (Some c.in-Some-base_named.base) c.if-text-gt-TEXT_LIMIT.false (sym c.in-Some.ensures) (sym c.if-is_pointer_word.ensures) (sym c.in-Some-base_named.ensures) in
+    let same = type_of-plain c.args.text.now c.in-Some.word.now (tokens c.in-Some.rest.now)
+    (Some c.in-Some-base_named.base) c.if-text-gt-TEXT_LIMIT.false (sym c.in-Some.ensures)
+    (sym c.if-is_pointer_word.ensures) (sym c.in-Some-base_named.ensures) in
     search (rules, IfOk-equal)
 
 pub returns-in-None : goal.returns-in-None
 returns-in-None c =
-    sym (type_of-plain c.args.text.now c.in-Some.word.now (tokens c.in-Some.rest.now) None c.if-text-gt-TEXT_LIMIT.false (sym c.in-Some.ensures) (sym c.if-is_pointer_word.ensures) (sym c.in-None.ensures))
+    sym (type_of-plain c.args.text.now c.in-Some.word.now (tokens c.in-Some.rest.now) None c.if-text-gt-TEXT_LIMIT.false
+    (sym c.in-Some.ensures) (sym c.if-is_pointer_word.ensures) (sym c.in-None.ensures))

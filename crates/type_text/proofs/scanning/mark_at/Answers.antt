@@ -8,4 +8,8 @@ pub returns : goal.returns
 returns c =
     let text = c.skip_blanks-text in
     let long : 0 < length text.result.now = grind (arith, nat_tests) in
-    rw (take_rest text.result.now 1, ← text.ensures.same, after_mark-same c.args.mark text.result.now c.requires long c.if-text-mark.false) refl
+    rw (
+      take_rest text.result.now 1,
+      ← text.ensures.same,
+      after_mark-same c.args.mark text.result.now c.requires long c.if-text-mark.false,
+    ) refl

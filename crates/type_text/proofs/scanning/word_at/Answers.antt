@@ -7,4 +7,9 @@ pub returns : goal.returns
 returns c =
     let word = c.word_length-end in
     let text = c.skip_blanks-text in
-    rw (take_rest text.result.now word.result, ← text.ensures.same, tokens-word word.result text.result.now (omega (arith, c.if-end-eq0.false)) word.ensures.within word.ensures.run word.ensures.longest) refl
+    rw (
+      take_rest text.result.now word.result,
+      ← text.ensures.same,
+      tokens-word word.result text.result.now (omega (arith, c.if-end-eq0.false)) word.ensures.within word.ensures.run
+          word.ensures.longest,
+    ) refl

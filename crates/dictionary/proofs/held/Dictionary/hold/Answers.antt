@@ -14,4 +14,7 @@ put-requires c =
 
 pub invariant_of-self : goal.invariant_of-self
 invariant_of-self c =
-    IsKept-put c.put.result c.self.inside.by_class.entries c.put.new.by_class.entries (class_at c.self.inside.by_name) (class_at c.put.new.by_name) c.args.class c.args.entry c.self.invariant (subst (λ held. IsNew held c.args.entry) (sym c.self.view_is) c.requires.fresh) c.requires.read c.requires.class c.put.ensures.classes c.put.ensures.names c.put.ensures.classes_stay c.put.ensures.names_stay
+    IsKept-put c.put.result c.self.inside.by_class.entries c.put.new.by_class.entries (class_at c.self.inside.by_name)
+    (class_at c.put.new.by_name) c.args.class c.args.entry c.self.invariant
+    (subst (λ held. IsNew held c.args.entry) (sym c.self.view_is) c.requires.fresh) c.requires.read c.requires.class
+    c.put.ensures.classes c.put.ensures.names c.put.ensures.classes_stay c.put.ensures.names_stay
