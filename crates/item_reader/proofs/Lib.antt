@@ -33,6 +33,7 @@ pub mod Placing
 pub mod Describing
 pub mod Taken
 pub mod ReadOn
+pub mod ReadsStay
 pub mod Numbers
 pub mod Holding
 pub mod LentBody

@@ -10,7 +10,8 @@ use Rattle.item_reader.specs.declared.fault.Fault.{Fault}
 use Rattle.item_reader.specs.Item.{Item, Before, nothing_yet}
 use Rattle.item_reader.specs.MayStand.{Begins, IsWellFormed}
 use Rattle.item_reader.specs.Fault.{Here, fault_at, fault_by, fault_here, IsItemFault, IsFirstFault}
-use Rattle.item_reader.specs.Laws.{WellFormed, EachFileIsJudged, NoFileIsBoth, FaultsAreUnique, NoItemStandsAtAFault}
+use Rattle.item_reader.specs.Laws.{WellFormed, EachFileIsJudged, NoFileIsBoth, FaultsAreUnique}
+use Rattle.item_reader.specs.Laws.{ItemsBeforeFaultsAreUnique, NoItemStandsAtAFault}
 use Rattle.item_reader.proofs.Headers.{same_order, begins-unfaulted, same_header_fault}
 use Rattle.item_reader.proofs.Chains.{here_of, IsClosed, IsFaulted, IsEnd, none_or_some, no_item, same_chain, chain_from}
 
@@ -76,6 +77,11 @@ faults_unique file fault other (inr left) (inr right) =
     let Q : Before → Type 0 = λ b. IsFaulted right.order file b fault in
     same_holds right.order file right.last fault other
     (subst Q same.2 (subst P same.0 (record { holds = left.holds }))) (record { holds = right.holds })
+
+pub items_before_unique : ItemsBeforeFaultsAreUnique
+items_before_unique file fault other first second =
+    same_beginning file first.order second.order first.items second.items first.last second.last first.begins
+    second.begins (faulted_end file fault first) (faulted_end file other second)
 
 -- the judgement of a file whose header is read
 judged_begun : (file : List ℕ) (order : Order) (items : List Item) (last : Before) → Begins file order items last

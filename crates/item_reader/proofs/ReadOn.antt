@@ -138,7 +138,7 @@ here_in file r = record { order = r.order; file = file; before = r.before }
 first-by : (file : List ℕ) (r : Reader) (fault : Fault) → HasRead file r → r.before.closed ≡ false → r.before.place ≤ length file → Faults (here_in file r) fault → IsItemFault file fault
 first-by file r fault read unclosed within (inl holds) =
     record { order = r.order; items = read.items; last = r.before; begins = read.begins; holds = holds }
-first-by file r fault read unclosed within (inr (item, none, found, holds)) =
+first-by file r fault read unclosed within (inr (item, none, found, closes, holds)) =
     let may : MayStand r.order file r.before item = stands (here_in file r) item unclosed within none found in
     record {
       order = r.order;

@@ -6,7 +6,8 @@ use Rattle.item_reader.specs.declared.fault.Fault.{Fault}
 use Rattle.item_reader.specs.Reason.{number_of}
 use Rattle.item_reader.specs.Item.{Item, Before}
 use Rattle.item_reader.specs.MayStand.{MayStand, Begins, IsWellFormed}
-use Rattle.item_reader.specs.Fault.{Here, Spot, judged, reasons, first_of, fault_here, IsFirstFault}
+use Rattle.item_reader.specs.Fault.{Here, Spot, judged, reasons, first_of, fault_here, IsItemFault}
+use Rattle.item_reader.specs.Fault.{IsFirstFault}
 
 -- a file is well-formed
 abbrev pub WellFormed : List ℕ → Type 0
@@ -32,6 +33,12 @@ ItemsAreUnique =
 -- No proper prefix of a well-formed file is well-formed.
 abbrev pub NoPrefixIsWellFormed : Type 0
 NoPrefixIsWellFormed = (file : List ℕ) (n : ℕ) → n < length file → WellFormed file → WellFormed (take n file) → ⊥
+
+-- The items before a file's first fault are the only ones, and what stands before its place is one.
+abbrev pub ItemsBeforeFaultsAreUnique : Type 0
+ItemsBeforeFaultsAreUnique =
+    (file : List ℕ) (fault other : Fault) (first : IsItemFault file fault) (second : IsItemFault file other) →
+    (first.order ≡ second.order) × (first.items ≡ second.items) × (first.last ≡ second.last)
 
 -- Of the reasons that hold of what stands at a place, the one named has the least number.
 abbrev pub NamesTheLeastReason : Type 0

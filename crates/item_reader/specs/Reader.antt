@@ -58,10 +58,14 @@ abbrev pub IsFileEnd : Given → Type 0
 IsFileEnd (given.FileEnd at class length seek) = ⊤
 IsFileEnd item = ⊥
 
--- The fault of what stands at a place, or, where that is an item that may stand there, of what stands after it.
+-- The fault of what stands at a place, or, where that is an item that may stand there and closes the file, of what
+-- stands after it.
 abbrev pub Faults : Here → Fault → Type 0
 Faults h fault =
-    (fault_here h ≡ Some fault) ⊎ ((item : Item) × (fault_here h ≡ None) × (item_here h ≡ Some item) × (fault_here (record h { before = after h.order h.before item }) ≡ Some fault))
+    (fault_here h ≡ Some fault)
+    ⊎ ((item : Item) × (fault_here h ≡ None) × (item_here h ≡ Some item)
+    × ((after h.order h.before item).closed ≡ true)
+    × (fault_here (record h { before = after h.order h.before item }) ≡ Some fault))
 
 -- An item was taken, its body stands there, and the end of the file is at the file's end.
 pub record TakesOn (old : Reached) (item : Given) (body : ℕ × ℕ) (new : Reached) : Type 0 where

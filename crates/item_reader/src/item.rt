@@ -46,7 +46,7 @@ pub enum Item {
 #[derive(Clone, Copy, Debug, PartialEq, Eq, Error)]
 pub enum ReadError {
     /// The file is not well-formed, and this is its first fault.
-    #[error("{0}")]
+    #[error("Fault")]
     Fault(Fault),
     /// The shelf could not do a call.
     #[error("Device")]

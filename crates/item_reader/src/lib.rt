@@ -18,8 +18,10 @@ mod whole_file;
 
 pub use fault::Fault;
 pub use item::{Item, ReadError};
-pub use kind::Kind;
-pub use laws::{files_are_judged_once, items_are_unique, reasons_are_least};
+pub use kind::{Kind, kind_of};
+pub use laws::{
+    files_are_judged_once, items_are_unique, items_before_faults_are_unique, reasons_are_least,
+};
 pub use reader::ItemReader;
 pub use reason::Reason;
 pub use structure::{FILE_LIMIT, RECORD_LIMIT};

@@ -74,6 +74,8 @@ impl ItemReader {
         ensures slot { IfOk result (λ reader. reader.slot ≡ slot) }
         ensures begun { IfOk result (λ reader. (reader.before ≡ nothing_yet) × (reader.body ≡ []) × (reader.last ≡ None) × (reader.error ≡ None)) }
         ensures fault { (fault : Fault) → result ≡ Err (ReadError.Fault fault) → Told (file_of (S.outside shelf.old) slot) (λ file. IsFirstFault file fault) }
+        ensures header { (fault : Fault) → result ≡ Err (ReadError.Fault fault)
+            → Told (file_of (S.outside shelf.old) slot) (λ file. IsHeaderFault file fault) }
         ensures device { result ≡ Err ReadError.Device → Rose (S.outside shelf.old).faults (S.outside shelf.new).faults }
         ensures draws { Draws (S.outside shelf.old) (S.outside shelf.new) slot }
     {
@@ -88,8 +90,10 @@ impl ItemReader {
         })
     }
 
-    /// The next item, or the file's first fault. The end of the file is given only after no byte was found after it, and again by
-    /// every later call. After an error every later call gives the same error, and nothing is said of the other calls.
+    /// The next item, or the file's first fault, which stands at the place reached (Trailing: at the end of the
+    /// FrEndOfFile that may stand there). The end of the file is given only after no byte was found after it, and
+    /// again by every later call. After an error every later call gives the same error, and nothing is said of the
+    /// other calls.
     ///
     /// The shelf and its slot are those of `begin`.
     pub fn next<S: Shelf>(&mut self, shelf: &mut S) -> Result<Item, ReadError>
@@ -102,6 +106,9 @@ impl ItemReader {
         ensures within { IfOk result (λ item. self.old.last ≡ None → self.new.before.place ≤ file_limit) }
         ensures end { IfOk result (λ item. IsFileEnd item → Told (file_of (S.outside shelf.old) self.old.slot) (λ file. HasEnded file self.new)) }
         ensures fault { (fault : Fault) → result ≡ Err (ReadError.Fault fault) → self.old.error ≡ None → Told (file_of (S.outside shelf.old) self.old.slot) (λ file. IsFirstFault file fault) }
+        ensures at { (fault : Fault) → result ≡ Err (ReadError.Fault fault) → self.old.error ≡ None
+            → Told (file_of (S.outside shelf.old) self.old.slot) (λ file.
+            Faults (record { order = self.old.order; file = file; before = self.old.before }) fault) }
         ensures device { result ≡ Err ReadError.Device → self.old.error ≡ None → Rose (S.outside shelf.old).faults (S.outside shelf.new).faults }
         ensures draws { Draws (S.outside shelf.old) (S.outside shelf.new) self.old.slot }
 

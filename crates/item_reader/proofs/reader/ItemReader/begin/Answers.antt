@@ -4,11 +4,20 @@ use Rattle.item_reader.specs.Fault.{IsHeaderFault}
 use Rattle.item_reader.proofs.ReadOn.{whole, file-draws, source-draws, begun, keeps_begun, fault-made}
 use Rattle.item_reader.proofs.reader.ItemReader.begin.Goals as goal
 
+pub returns-in_err-order-clause-header : goal.returns-in_err-order-clause-header
+returns-in_err-order-clause-header g c = λ fault is file told.
+    let taken : c.in_ok-file.file.items ≡ file =
+    whole (g.S.Shelf.outside c.args.shelf.now) c.args.slot c.in_ok-file.file.items file c.requires.beginning
+    c.in_ok-file.ensures.bytes told in
+    let same : fault ≡ c.in_err-order.field-0.0 =
+    fault-made c.from_residual-in_err-order.result fault c.in_err-order.field-0.0 is
+    c.from_residual-in_err-order.ensures.1 in
+    subst (λ bytes. IsHeaderFault bytes fault) (c.as_slice.ensures.value ∙ taken)
+    (subst (IsHeaderFault c.as_slice.result.now) (sym same) c.in_err-order.ensures.fault)
+
 pub returns-in_err-order-clause-fault : goal.returns-in_err-order-clause-fault
 returns-in_err-order-clause-fault g c = λ fault is file told.
-    let taken : c.in_ok-file.file.items ≡ file = whole (g.S.Shelf.outside c.args.shelf.now) c.args.slot c.in_ok-file.file.items file c.requires.beginning c.in_ok-file.ensures.bytes told in
-    let same : fault ≡ c.in_err-order.field-0.0 = fault-made c.from_residual-in_err-order.result fault c.in_err-order.field-0.0 is c.from_residual-in_err-order.ensures.1 in
-    inl (subst (λ bytes. IsHeaderFault bytes fault) (c.as_slice.ensures.value ∙ taken) (subst (IsHeaderFault c.as_slice.result.now) (sym same) c.in_err-order.ensures.fault))
+    inl (returns-in_err-order-clause-header g c fault is file told)
 
 pub returns-clause-reads : goal.returns-clause-reads
 returns-clause-reads g c =

@@ -3,7 +3,7 @@ use Rattle.std.proofs.Common.{ap, sym, subst, ◌∙◌, arith}
 use Rattle.std.specs.Prelude.{is_some}
 use Rattle.std.specs.Bool.{then_some}
 use Rattle.frame_outside.proofs.Reading.{passes_none}
-use Rattle.item_reader.specs.Reader.{Reader, Keeps, HasRead, HasEnded}
+use Rattle.item_reader.specs.Reader.{Reader, Keeps, HasRead, HasEnded, Faults}
 use Rattle.item_reader.proofs.ReadOn.{reads-on, goes_from, read_from, fault_from, well_from, end_taken, closed_taken, none-kept, keeps_taken, moves_taken}
 use Rattle.item_reader.proofs.reader.ItemReader.next.Goals as goal
 
@@ -84,3 +84,11 @@ invariant_of-self g c = (
   c.in-Ok.ensures.ok.forward,
   c.in-Ok.ensures.ok.within,
 )
+
+pub returns-in-Err-clause-at : goal.returns-in-Err-clause-at
+returns-in-Err-clause-at g c = λ fault is none file told.
+    let old : Reader = c.args.self.now in
+    let read : HasRead file old = c.requires.reads.read none file told in
+    subst (λ bytes. Faults (record { order = old.order; file = bytes; before = old.before }) fault) read.taken
+    (subst (λ (r : Reader). Faults (record { order = r.order; file = r.bytes; before = r.before }) fault)
+    c.self.view_is (c.in-Err.ensures.fault fault cc))
