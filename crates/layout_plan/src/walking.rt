@@ -15,7 +15,7 @@ use scalar_types::{Order, read_num};
 /// The most fields of a layout.
 pub const FIELD_LIMIT: usize = 4096;
 
-/// The most varied fields of a walk for which little room is made.
+/// The most fields for which little room is made on the stack, which all but a few layouts have no more than.
 pub const FEW_FIELDS: usize = 64;
 
 /// What a walk over some fields found.
