@@ -17,6 +17,7 @@ mod respelled;
 mod rewriting;
 mod spelled;
 pub mod spelling;
+mod steps;
 mod walking;
 
 pub use built_in::{element_plan, structure_plan};
