@@ -17,3 +17,4 @@ pub mod CounterLemmas
 pub mod WrittenLemmas
 pub mod RespelledLemmas
 pub mod RewriteLemmas
+pub mod StepLemmas

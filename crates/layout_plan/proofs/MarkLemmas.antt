@@ -155,25 +155,15 @@ numbers_where-at such fields j i d lt is =
     let n = numbers_where-from such 0 fields d j (omega (arith, length-numbers_where such 0 fields)) in
     subst (IsNumbered such fields j) (omega (arith, n.1)) n.2
 
--- the varied fields before field k are the first of all
-pub varied-before : (fields : List Field) (varied : List ℕ) (k count : ℕ) → varied ≡ numbers_where is_varied 0 fields → k ≤ length fields → count ≡ (mark_of fields k).varied → length (take count varied) ≡ count
-varied-before fields varied k count are le is =
-    let all = ap (count_by is_varied) (take_all (length fields) fields (omega arith)) in
-    length-take-le count varied (omega (arith, is, ap length are, length-numbers_where is_varied 0 fields, mark_of-varied fields (length fields), all, IsLater-varied (mark_of fields k) (mark_of fields (length fields)) (mark_of-later fields k (length fields) le)))
-
-pub varied-at : (fields : List Field) (varied : List ℕ) (k count j : ℕ) → varied ≡ numbers_where is_varied 0 fields → k ≤ length fields → count ≡ (mark_of fields k).varied → j < length (take count varied) → IsNumbered is_varied fields j (get_or (take count varied) j 0)
-varied-at fields varied k count j are le is lt =
-    let whole = varied-before fields varied k count are le is in
-    let all : length (take count varied) ≤ length varied = omega (arith, length-take count varied) in
-    numbers_where-at is_varied fields j (get_or (take count varied) j 0) 0 (omega (arith, lt, all, ap length are, length-numbers_where is_varied 0 fields)) (get_or-take count varied j 0 (omega (arith, lt, whole)) ∙ ap (λ ns. get_or ns j 0) are)
-
--- the plan as far as it is made: what is kept of the first i fields, before what is to be kept of the others, is what is kept of all
-pub record ArePlannedSoFar (fields : List Field) (i : ℕ) (varied : List ℕ) (marks : List Mark) (links : List ℕ) (is_link : Field → Bool) (mark : Mark) : Type 0 where
-  pub varied_are : varied ++ numbers_where is_varied i (drop i fields) ≡ numbers_where is_varied 0 fields
+-- the marks as far as they are made: with those of the other fields they are all
+pub record AreMarksSoFar (fields : List Field) (i : ℕ) (marks : List Mark) (mark : Mark) : Type 0 where
   pub marks_are : marks ++ marks_from mark (drop i fields) ≡ marks_from first_mark fields
-  pub links_are : links ++ numbers_where is_link i (drop i fields) ≡ numbers_where is_link 0 fields
   pub few : mark.varied ≤ i
   pub small : mark.skip ≤ 16 * i
+
+-- the same of the numbers of the fields that are such
+pub record AreNumbersSoFar (such : Field → Bool) (fields : List Field) (i : ℕ) (numbers : List ℕ) : Type 0 where
+  pub numbers_are : numbers ++ numbers_where such i (drop i fields) ≡ numbers_where such 0 fields
 
 noted : (such : Field → Bool) (i : ℕ) (f : Field) (fs : List Field) (numbers : List ℕ) → (numbers ++ cond (such f) (i ∷ []) []) ++ numbers_where such (i + 1) fs ≡ numbers ++ numbers_where such i (f ∷ fs)
 noted such i f fs numbers = append_assoc numbers (cond (such f) (i ∷ []) []) (numbers_where such (i + 1) fs) ∙ ap (λ ns. numbers ++ ns) (by (such f))
@@ -203,19 +193,27 @@ past-small : (m : Mark) (width : Option ℕ) → option_map_or (λ width. width)
 past-small m (Some width) le = omega arith
 past-small m None le = omega arith
 
+-- what is left begins with the next field
+pub field-from : (fields : List Field) (i : ℕ) (f : Field) → i < length fields → f ≡ get_or fields i f → drop i fields ≡ f ∷ drop (i + 1) fields
+field-from fields i f lt is =
+    at_drop_more (λ fs. fs) fields i f lt ∙ ap (λ g. g ∷ drop (i + 1) fields) (sym is)
+
 -- one more field
-pub ArePlannedSoFar-more : (fields : List Field) (i : ℕ) (varied : List ℕ) (marks : List Mark) (links : List ℕ) (is_link : Field → Bool) (mark : Mark) (f : Field) → ArePlannedSoFar fields i varied marks links is_link mark → i < length fields → f ≡ get_or fields i f → ArePlannedSoFar fields (i + 1) (varied ++ cond (is_varied f) (i ∷ []) []) (marks ++ mark ∷ []) (links ++ cond (is_link f) (i ∷ []) []) is_link (past mark (width_of f))
-ArePlannedSoFar-more fields i varied marks links is_link mark f before lt is = record {
-  varied_are = noted is_varied i f (drop (i + 1) fields) varied ∙ ap (λ fs. varied ++ numbers_where is_varied i fs) (sym from) ∙ before.varied_are;
-  marks_are = append_assoc marks (mark ∷ []) (marks_from (past mark (width_of f)) (drop (i + 1) fields)) ∙ ap (λ fs. marks ++ marks_from mark fs) (sym from) ∙ before.marks_are;
-  links_are = noted is_link i f (drop (i + 1) fields) links ∙ ap (λ fs. links ++ numbers_where is_link i fs) (sym from) ∙ before.links_are;
+pub AreMarksSoFar-more : (fields : List Field) (i : ℕ) (marks : List Mark) (mark : Mark) (f : Field) → AreMarksSoFar fields i marks mark → i < length fields → f ≡ get_or fields i f → AreMarksSoFar fields (i + 1) (marks ++ mark ∷ []) (past mark (width_of f))
+AreMarksSoFar-more fields i marks mark f before lt is = record {
+  marks_are = append_assoc marks (mark ∷ []) (marks_from (past mark (width_of f)) (drop (i + 1) fields)) ∙ ap (λ fs. marks ++ marks_from mark fs) (sym (field-from fields i f lt is)) ∙ before.marks_are;
   few = omega (arith, before.few, past-varied mark (width_of f), below (is_none (width_of f)));
   small = omega (arith, before.small, past-small mark (width_of f) (fixed_width-small f.form f.counts));
 }
   where
-    from : drop i fields ≡ f ∷ drop (i + 1) fields
-    from = at_drop_more (λ fs. fs) fields i f lt ∙ ap (λ g. g ∷ drop (i + 1) fields) (sym is)
-
     below : (b : Bool) → cond b 1 0 ≤ 1
     below true = omega arith
     below false = omega arith
+
+pub AreNumbersSoFar-more : (such : Field → Bool) (fields : List Field) (i : ℕ) (numbers : List ℕ) (f : Field) → AreNumbersSoFar such fields i numbers → i < length fields → f ≡ get_or fields i f → AreNumbersSoFar such fields (i + 1) (numbers ++ cond (such f) (i ∷ []) [])
+AreNumbersSoFar-more such fields i numbers f before lt is = record {
+  numbers_are = noted such i f (drop (i + 1) fields) numbers ∙ ap (λ fs. numbers ++ numbers_where such i fs) (sym (field-from fields i f lt is)) ∙ before.numbers_are;
+}
+
+pub numbers_where-varied : (such : Field → Bool) (i : ℕ) (f : Field) (fs : List Field) (b : Bool) → such f ≡ b → numbers_where such i (f ∷ fs) ≡ cond b (i ∷ numbers_where such (i + 1) fs) (numbers_where such (i + 1) fs)
+numbers_where-varied such i f fs b is = ap (λ b. cond b (i ∷ numbers_where such (i + 1) fs) (numbers_where such (i + 1) fs)) is

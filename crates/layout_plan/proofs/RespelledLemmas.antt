@@ -113,10 +113,10 @@ size-low Four = omega arith
 size-low Eight = omega arith
 
 -- the bytes that are written of a number
-pub number-written : (width : Width) (n size : ℕ) (bytes : List ℕ) → size ≡ size_of width → size ≤ length bytes → n < 256 ^ size_of width → take (size_of width) bytes ≡ bytes_of Little width n → IsNumber Little width n (take size bytes)
-number-written width n size bytes sized le fits are = record {
+pub number-written : (order : Order) (width : Width) (n size : ℕ) (bytes : List ℕ) → size ≡ size_of width → size ≤ length bytes → n < 256 ^ size_of width → take (size_of width) bytes ≡ bytes_of order width n → IsNumber order width n (take size bytes)
+number-written order width n size bytes sized le fits are = record {
   size = length-take-le size bytes le ∙ sized;
-  value = ap (λ k. number Little (take k bytes)) sized ∙ number-from_bytes Little width n (take (size_of width) bytes) fits are;
+  value = ap (λ k. number order (take k bytes)) sized ∙ number-from_bytes order width n (take (size_of width) bytes) fits are;
 }
 
 -- the number at the front

@@ -16,3 +16,4 @@ pub mod Exact
 pub mod Spelled
 pub mod Walking
 pub mod Marks
+pub mod Steps

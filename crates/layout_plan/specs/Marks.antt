@@ -1,13 +1,11 @@
 -- Of the inside. Where fields stand: marks that tell a field's place from the ends of the fields whose bytes a body alone tells.
-use Rattle.std.specs.Prelude.{◌≡◌, ℕ, zero, suc, ◌+◌, ◌*◌, Bool, if◌then◌else◌, List, [], ◌∷◌, Option, Some, None, is_none, slice_index}
+use Rattle.std.specs.Prelude.{ℕ, zero, suc, ◌+◌, ◌*◌, Bool, if◌then◌else◌, List, [], ◌∷◌, Option, Some, None, is_none, slice_index}
 use Rattle.scalar_types.specs.Number.{size_of}
 use Rattle.layout_plan.specs.declared.fields.Form.{Form}
 use Rattle.layout_plan.specs.declared.fields.Form.TheVariants.{Number, Pair, Link}
 use Rattle.layout_plan.specs.declared.fields.Count.{Count}
 use Rattle.layout_plan.specs.declared.fields.Field.{Field}
 use Rattle.layout_plan.specs.declared.marks.Mark.{Mark}
-use Rattle.layout_plan.specs.Layout.{IsLayout}
-use Rattle.layout_plan.specs.Links.{is_link}
 
 -- the bytes of a field of fixed width: one without dimension that is no text
 abbrev pub fixed_width : Form → List Count → Option ℕ
@@ -57,10 +55,3 @@ end_of ends (suc k) = slice_index ends k
 
 abbrev pub place_of : List ℕ → Mark → ℕ
 place_of ends mark = end_of ends mark.varied + mark.skip
-
--- what a plan keeps of its fields
-pub record ArePlanned (fields : List Field) (varied : List ℕ) (marks : List Mark) (links : List ℕ) : Type 0 where
-  pub layout : IsLayout fields
-  pub varied_are : varied ≡ numbers_where is_varied 0 fields
-  pub marks_are : marks ≡ marks_from first_mark fields
-  pub links_are : links ≡ numbers_where is_link 0 fields

@@ -2,19 +2,22 @@
 use thiserror::Error;
 
 /// Why a body does not spell its layout.
-#[derive(Clone, Copy, Debug, PartialEq, Eq)]
+#[derive(Clone, Copy, Debug, PartialEq, Eq, Error)]
 pub enum BodyReason {
     /// Fewer bytes are left than the field needs.
+    #[error("BodyShort")]
     BodyShort,
     /// All fields are spelled, and the bytes after them are neither none nor four.
+    #[error("BodyLong")]
     BodyLong,
     /// The bytes of a text are all there, and the last of them is not zero.
+    #[error("BadText")]
     BadText,
 }
 
 /// The first field without a spelling, counted from 0, and why it has none. Of BodyLong it is the number of fields.
 #[derive(Clone, Copy, Debug, PartialEq, Eq, Error)]
-#[error("{reason:?}")]
+#[error("{reason}")]
 pub struct BodyFault {
     pub field: u32,
     pub reason: BodyReason,

@@ -7,7 +7,7 @@ ghost use Rattle.layout_plan.specs.Walking.{ArePlaces};
 ghost use Rattle.layout_plan.specs.Lent.{EndsAt, HasNumberAt, HasTextAt, IsNumberField, IsTextField, IsPlaced};
 
 use crate::Plan;
-use crate::walking::{FEW_FIELDS, FIELD_LIMIT, number_at, place, walk};
+use crate::walking::{FEW_FIELDS, FEWEST_FIELDS, FIELD_LIMIT, number_at, place, walk};
 use scalar_types::Order;
 
 /// A field's place in a body.
@@ -68,7 +68,10 @@ pub fn place_of(plan: &Plan, order: Order, body: &[u8], field: u32) -> Placed
     requires field { field < length plan.now }
     ensures { IsPlaced order plan.now body.now field result }
 {
-    if plan.mark(field as usize + 1).varied as usize <= FEW_FIELDS {
+    let count = plan.mark(field as usize + 1).varied as usize;
+    if count <= FEWEST_FIELDS {
+        place_in(plan, order, body, field, &mut [0; FEWEST_FIELDS])
+    } else if count <= FEW_FIELDS {
         place_in(plan, order, body, field, &mut [0; FEW_FIELDS])
     } else {
         place_in(plan, order, body, field, &mut [0; FIELD_LIMIT])

@@ -16,24 +16,29 @@ mod plans;
 mod respelled;
 mod rewriting;
 mod spelled;
+pub mod spelling;
+mod steps;
 mod walking;
 
 pub use built_in::{element_plan, structure_plan};
 pub use faults::{BodyFault, BodyReason, Measured};
 pub use fields::{Count, CountList, Field, Form};
-pub use laws::{bodies_have_one_answer, layouts_are_sound, lengths_are_told};
+pub use laws::{bodies_have_one_answer, faults_are_told, layouts_are_sound, lengths_are_told};
 pub use lent::{num_at, span_of, text_at};
-pub use links::{FieldLink, LINK_SIZE, link_at, link_field, push_links};
+pub use links::{FieldLink, LINK_SIZE, link_at, link_field, link_start, push_links};
 pub use measuring::{TAIL_SIZE, measure};
 pub use plan::{Plan, compile};
 pub use plans::Plans;
 pub use rewriting::rewrite;
 pub use spelled::capped_count;
+pub use walking::{FEW_FIELDS, FIELD_LIMIT};
 
 #[cfg(test)]
 mod tests;
 #[cfg(test)]
 mod tests_of_built_in;
+#[cfg(test)]
+mod tests_of_links;
 #[cfg(test)]
 mod tests_of_plans;
 #[cfg(test)]

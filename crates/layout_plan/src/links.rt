@@ -12,7 +12,7 @@ ghost use Rattle.layout_plan.specs.Walking.{ArePlaces};
 ghost use Rattle.layout_plan.specs.Links.{HasLink, HasLinkAt, HasLinkIn, IsLinkPlaced, IsReplaceable, AreLinks, links_with, HasLinks, is_link};
 
 use crate::lent::{place_by, walk_body};
-use crate::walking::{FEW_FIELDS, FIELD_LIMIT};
+use crate::walking::{FEW_FIELDS, FEWEST_FIELDS, FIELD_LIMIT};
 use crate::{Field, Form, Plan};
 use scalar_types::{Order, Width, read_num};
 use std::alloc::AllocError;
@@ -92,7 +92,10 @@ fn push_all(
     requires { HasBody order plan.now body.now }
     ensures { Appends (λ links. OnOk result (AreLinks order plan.now body.now links)) into.old.items into.new.items }
 {
-    if plan.varied().len() <= FEW_FIELDS {
+    let count = plan.steps().len();
+    if count <= FEWEST_FIELDS {
+        push_all_in(plan, order, body, into, &mut [0; FEWEST_FIELDS])
+    } else if count <= FEW_FIELDS {
         push_all_in(plan, order, body, into, &mut [0; FEW_FIELDS])
     } else {
         push_all_in(plan, order, body, into, &mut [0; FIELD_LIMIT])
@@ -147,7 +150,10 @@ fn link_place(plan: &Plan, order: Order, body: &[u8], k: u64) -> LinkPlace
     ensures placed { IsLinkPlaced order plan.now body.now k result }
     ensures replaced { IsReplaceable order plan.now body.now k result.at }
 {
-    if plan.varied().len() <= FEW_FIELDS {
+    let count = plan.steps().len();
+    if count <= FEWEST_FIELDS {
+        link_place_in(plan, order, body, k, &mut [0; FEWEST_FIELDS])
+    } else if count <= FEW_FIELDS {
         link_place_in(plan, order, body, k, &mut [0; FEW_FIELDS])
     } else {
         link_place_in(plan, order, body, k, &mut [0; FIELD_LIMIT])

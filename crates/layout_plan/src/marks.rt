@@ -1,11 +1,13 @@
 //! Where fields stand. A field without dimension that is no text has a fixed width. Of the others, the varied fields, a body alone
 //! tells how many bytes they are.
-ghost use Rattle.std.specs.Prelude.{◌≡◌, ◌+◌, ◌<◌, ◌^◌, Some};
+ghost use Rattle.std.specs.Prelude.{◌≡◌, ◌+◌, ◌≤◌, ◌<◌, ◌^◌, Some, IfOk, length};
 ghost use Rattle.std.specs.Option.{option_map_or};
-ghost use Rattle.layout_plan.specs.Marks.{fixed_width, past};
+ghost use Rattle.layout_plan.specs.Marks.{fixed_width, past, first_mark, marks_from};
 
 use crate::links::LINK_SIZE;
 use crate::{Field, Form};
+use std::alloc::{AllocError, Global};
+use type_text::ItemList;
 
 /// A field's place, by the ends of the varied fields before it.
 #[derive(Clone, Copy)]
@@ -47,4 +49,19 @@ pub fn past(mark: Mark, width: Option<u32>) -> Mark
             skip: 0,
         },
     }
+}
+
+/// The marks of the fields, and of the place after the last.
+pub fn marks_of(alloc: Global, fields: &[Field]) -> Result<ItemList<Mark>, AllocError>
+    requires { length fields.now ≤ 4096 }
+    ensures { IfOk result (λ marks. marks ≡ marks_from first_mark fields.now) }
+{
+    let mut marks = ItemList::new(alloc);
+    let mut mark = Mark { varied: 0, skip: 0 };
+    for field in fields {
+        marks.push(mark)?;
+        mark = past(mark, fixed_width(field));
+    }
+    marks.push(mark)?;
+    Ok(marks)
 }

@@ -6,7 +6,7 @@ ghost use Rattle.layout_plan.specs.Marks.{mark_of};
 ghost use Rattle.layout_plan.specs.Walking.{TellsBody};
 
 use crate::links::count_links;
-use crate::walking::{FEW_FIELDS, FIELD_LIMIT, fault, walk};
+use crate::walking::{FEW_FIELDS, FEWEST_FIELDS, FIELD_LIMIT, fault, walk};
 use crate::{BodyFault, BodyReason, Measured, Plan};
 use scalar_types::Order;
 
@@ -20,7 +20,10 @@ pub fn measure(plan: &Plan, order: Order, body: &[u8]) -> Result<Measured, BodyF
     ensures measured { IfOk result (λ m. IsMeasured order plan.now body.now m.links m.zero_texts) }
     ensures fault { IfErr result (λ fault. fault_of order plan.now body.now ≡ Some fault) }
 {
-    if plan.mark(plan.fields().len()).varied as usize <= FEW_FIELDS {
+    let count = plan.steps().len();
+    if count <= FEWEST_FIELDS {
+        measure_in(plan, order, body, &mut [0; FEWEST_FIELDS])
+    } else if count <= FEW_FIELDS {
         measure_in(plan, order, body, &mut [0; FEW_FIELDS])
     } else {
         measure_in(plan, order, body, &mut [0; FIELD_LIMIT])

@@ -2,12 +2,14 @@
 ghost use Rattle.std.specs.Prelude.{◌≡◌, ◌≤◌, ◌++◌, List, [], ◌∷◌, length, if◌then◌else◌, IfOk, OnOk};
 ghost use Rattle.layout_plan.specs.Layout.{layout_of, form_of, counted_by, named_count, is_check_sum, count_of, counts_of, field_of, IsLayout};
 ghost use Rattle.layout_plan.specs.Links.{is_link};
-ghost use Rattle.layout_plan.specs.Marks.{is_varied, numbers_where, mark_of};
+ghost use Rattle.layout_plan.specs.Marks.{numbers_where, mark_of};
+ghost use Rattle.layout_plan.specs.Steps.{steps_of};
 ghost use Rattle.layout_plan.specs.Names.{count_at, HoldsNames};
 ghost use Rattle.dictionary.specs.declared.entries.Element.{Element};
 
 use crate::links::is_link;
-use crate::marks::{Mark, fixed_width, past};
+use crate::marks::{Mark, marks_of};
+use crate::steps::{Step, steps_of};
 use crate::{Count, CountList, Field, Form};
 use dictionary::{Element, Entry};
 use indexmap::IndexMap;
@@ -26,8 +28,8 @@ const CHECK_SUM: &[u8] = b"chkSum";
 #[derive(Drop)]
 pub struct Plan {
     fields: ItemList<Field>,
-    /// The numbers of the varied fields.
-    varied: ItemList<u32>,
+    /// The steps of a walk over the varied fields.
+    steps: ItemList<Step>,
     /// The mark of each field, and of the place after the last.
     marks: ItemList<Mark>,
     /// The numbers of the links.
@@ -37,13 +39,13 @@ pub struct Plan {
 impl Model for Plan {
     ghost use Rattle.std.specs.Prelude.{List};
     ghost use Rattle.layout_plan.specs.declared.fields.Field.{Field};
-    ghost use Rattle.layout_plan.specs.Marks.{ArePlanned};
+    ghost use Rattle.layout_plan.specs.Steps.{ArePlanned};
 
     ghost Value = { List Field };
 
     ghost view = { λ plan. plan.fields };
 
-    ghost invariant = { λ plan. ArePlanned plan.fields plan.varied plan.marks plan.links };
+    ghost invariant = { λ plan. ArePlanned plan.fields plan.steps plan.marks plan.links };
 }
 
 impl Plan {
@@ -55,12 +57,12 @@ impl Plan {
         self.fields.as_slice()
     }
 
-    /// The numbers of the varied fields, in order.
-    pub(crate) fn varied(&self) -> &[u32]
-        ensures numbers { result.now ≡ numbers_where is_varied 0 self.now }
+    /// The steps of a walk over the varied fields, in order.
+    pub(crate) fn steps(&self) -> &[Step]
+        ensures steps { result.now ≡ steps_of self.now }
         ensures layout { IsLayout self.now }
     {
-        self.varied.as_slice()
+        self.steps.as_slice()
     }
 
     /// The mark of a field, or of the place after the last.
@@ -107,24 +109,27 @@ pub fn planned(alloc: Global, fields: ItemList<Field>) -> Result<Plan, AllocErro
     requires { IsLayout fields }
     ensures { IfOk result (λ plan. plan ≡ fields) }
 {
-    let mut varied = ItemList::new(alloc);
-    let mut marks = ItemList::new(alloc);
-    let mut links = ItemList::new(alloc);
-    let mut mark = Mark { varied: 0, skip: 0 };
-    for (i, field) in fields.as_slice().iter().enumerate() {
-        let width = fixed_width(field);
-        note_number(&mut varied, i as u32, width.is_none())?;
-        note_number(&mut links, i as u32, is_link(field))?;
-        marks.push(mark)?;
-        mark = past(mark, width);
-    }
-    marks.push(mark)?;
+    let marks = marks_of(alloc, fields.as_slice())?;
+    let steps = steps_of(alloc, fields.as_slice(), marks.as_slice())?;
+    let links = link_numbers(alloc, fields.as_slice())?;
     Ok(Plan {
         fields,
-        varied,
+        steps,
         marks,
         links,
     })
+}
+
+/// The numbers of the fields that are links, in order.
+fn link_numbers(alloc: Global, fields: &[Field]) -> Result<ItemList<u32>, AllocError>
+    requires { length fields.now ≤ 4096 }
+    ensures { IfOk result (λ links. links ≡ numbers_where is_link 0 fields.now) }
+{
+    let mut links = ItemList::new(alloc);
+    for (i, field) in fields.iter().enumerate() {
+        note_number(&mut links, i as u32, is_link(field))?;
+    }
+    Ok(links)
 }
 
 /// Puts the number of a field at the end where it is such.

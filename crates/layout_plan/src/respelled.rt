@@ -1,15 +1,15 @@
 //! The bytes of one field spelled again in little-endian order, each text closed by its zero byte. Where memory is out, a part of
 //! them may stand there.
-ghost use Rattle.std.specs.Prelude.{◌≡◌, ◌≤◌, ◌<◌, ◌*◌, ◌^◌, ℕ, List, true, length, take, OnOk, IfOk};
+ghost use Rattle.std.specs.Prelude.{◌≡◌, ◌≤◌, ◌<◌, ◌*◌, ℕ, List, true, length, take, OnOk, IfOk};
 ghost use Rattle.scalar_types.specs.declared.Order.{Order};
-ghost use Rattle.scalar_types.specs.Number.{size_of};
-ghost use Rattle.record_values.specs.Spelling.{IsNumber, IsText, IsClosedText, IsLink, AreItems};
+ghost use Rattle.record_values.specs.Spelling.{IsNumber, IsText, IsClosedText, AreItems};
 ghost use Rattle.layout_plan.specs.Appends.{Appends};
 ghost use Rattle.layout_plan.specs.Respelled.{IsSumNumber, Respells, BeginsText, RespellsText, SpellsFew, RespellsForm, RespellsField};
 
 use crate::links::LINK_SIZE;
+use crate::spelling::{push_links, push_number};
 use crate::{Field, Form};
-use scalar_types::{Order, Width, read_num, write_num};
+use scalar_types::{Order, Width, read_num};
 use std::alloc::AllocError;
 use type_text::Link;
 
@@ -55,7 +55,7 @@ fn push_form(
         Form::Text => push_texts(order, bytes, into)?,
         Form::Link => {
             let used = bytes.len() / LINK_SIZE;
-            push_links(&links[..used], into)?;
+            push_links(Order::Little, &links[..used], into)?;
             return Ok(used);
         }
     }
@@ -93,22 +93,9 @@ fn push_turned(width: Width, bytes: &[u8], into: &mut Vec<u8>) -> Result<(), All
     }
     for i in 0..bytes.len() / size {
         let n = read_num(Order::Big, width, &bytes[i * size..]);
-        push_number(width, n, into)?;
+        push_number(Order::Little, width, n, into)?;
     }
     Ok(())
-}
-
-/// Appends a number.
-fn push_number(width: Width, n: u64, into: &mut Vec<u8>) -> Result<(), AllocError>
-    requires { n < 256 ^ size_of width }
-    ensures { Appends
-        (λ new. OnOk result (IsNumber Order.Little width n new))
-        into.old.items
-        into.new.items }
-{
-    let mut bytes = [0; 8];
-    write_num(Order::Little, width, n, &mut bytes);
-    into.extend_from_slice(&bytes[..width.size()])
 }
 
 /// Appends one text after another, until the bytes end.
@@ -142,30 +129,7 @@ fn push_text(order: Order, bytes: &[u8], into: &mut Vec<u8>) -> Result<usize, Al
         return Ok(2);
     }
     let end = 2 + length;
-    push_number(Width::Two, length as u64, into)?;
+    push_number(Order::Little, Width::Two, length as u64, into)?;
     into.extend_from_slice(&bytes[2..end])?;
     Ok(end)
-}
-
-/// Appends links.
-fn push_links(links: &[Link], into: &mut Vec<u8>) -> Result<(), AllocError>
-    ensures { Appends
-        (λ new. OnOk result (AreItems (IsLink Order.Little) links.now new))
-        into.old.items
-        into.new.items }
-{
-    for link in links {
-        push_link(link, into)?;
-    }
-    Ok(())
-}
-
-fn push_link(link: &Link, into: &mut Vec<u8>) -> Result<(), AllocError>
-    ensures { Appends
-        (λ new. OnOk result (IsLink Order.Little link.now new))
-        into.old.items
-        into.new.items }
-{
-    push_number(Width::Two, u64::from(link.class), into)?;
-    push_number(Width::Four, u64::from(link.instance), into)
 }

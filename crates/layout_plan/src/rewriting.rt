@@ -10,7 +10,7 @@ ghost use Rattle.layout_plan.specs.Written.{IsRewritten};
 use crate::Plan;
 use crate::lent::{place_by, walk_body};
 use crate::respelled::push_field;
-use crate::walking::{FEW_FIELDS, FIELD_LIMIT};
+use crate::walking::{FEW_FIELDS, FEWEST_FIELDS, FIELD_LIMIT};
 use scalar_types::Order;
 use std::alloc::AllocError;
 use type_text::Link;
@@ -51,7 +51,10 @@ fn push_body(
     ensures { Appends (λ bytes. OnOk result (IsRewritten order plan.now body.now links.now bytes)) into.old.items into.new.items }
 {
     into.reserve(body.len())?;
-    if plan.varied().len() <= FEW_FIELDS {
+    let count = plan.steps().len();
+    if count <= FEWEST_FIELDS {
+        push_fields(plan, order, body, links, into, &mut [0; FEWEST_FIELDS])
+    } else if count <= FEW_FIELDS {
         push_fields(plan, order, body, links, into, &mut [0; FEW_FIELDS])
     } else {
         push_fields(plan, order, body, links, into, &mut [0; FIELD_LIMIT])

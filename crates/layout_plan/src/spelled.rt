@@ -1,13 +1,15 @@
 //! How far a varied field of a body reaches, and what `measure` counts of it. No memory is taken, whatever count a list claims.
 ghost use Rattle.std.specs.Prelude.{◌≡◌, ℕ, ◌≤◌, ◌<◌, ◌+◌, ◌*◌, true, List, min, length};
-ghost use Rattle.scalar_types.specs.Number.{size_of};
+ghost use Rattle.layout_plan.specs.declared.fields.Field.{Field};
+ghost use Rattle.layout_plan.specs.declared.fields.Form.TheVariants.{Text};
 ghost use Rattle.layout_plan.specs.Body.{extent_of, item_count, signed_count};
 ghost use Rattle.layout_plan.specs.Marks.{is_varied};
+ghost use Rattle.layout_plan.specs.Steps.{items_of};
 ghost use Rattle.layout_plan.specs.Reading.{single_in, listed_in, field_in, text_in};
 ghost use Rattle.layout_plan.specs.Spelled.{Tells, TellsText, TellsLength, zero_texts_of};
 
-use crate::links::LINK_SIZE;
-use crate::{BodyReason, Count, Field, Form};
+use crate::steps::Items;
+use crate::{BodyReason, Count};
 use scalar_types::{Order, Width, read_num};
 
 /// The spelling of one field at the front of some bytes.
@@ -23,17 +25,17 @@ pub struct Spelled {
 /// each greater one, since each item takes a byte or more.
 pub fn varied_at(
     order: Order,
-    field: &Field,
+    items: Items,
     count: usize,
     bytes: &[u8],
 ) -> Result<Spelled, BodyReason>
-    requires { is_varied field.now ≡ true }
-    ensures { (numbers : List ℕ) → count ≡ min (item_count numbers field.now.counts) (length bytes.now + 1) → Tells (field_in order numbers field.now.form field.now.counts bytes.now) field.now.form bytes.now result }
+    ensures { (f : Field) (numbers : List ℕ) → is_varied f ≡ true → items ≡ items_of f.form f.counts → count ≡ min (item_count numbers f.counts) (length bytes.now + 1) → Tells (field_in order numbers f.form f.counts bytes.now) f.form bytes.now result }
 {
-    if field.counts.is_empty() {
-        return text_at(order, bytes);
+    match items {
+        Items::OneText => text_at(order, bytes),
+        Items::Texts => texts_at(order, count, bytes),
+        Items::Plain(size) => plain_at(count.saturating_mul(size as usize), bytes),
     }
-    listed_at(order, field.form, count, bytes)
 }
 
 /// The items of a field: the product of its counts by the numbers of the fields before it, or the cap where that is less. Takes no
@@ -43,6 +45,9 @@ pub fn capped_count(counts: &[Count], numbers: &[u64], cap: usize) -> usize
 {
     let mut count = cap.min(1);
     for each in counts {
+        if count == 0 {
+            return 0;
+        }
         count = capped_product(count, extent(*each, numbers), cap);
     }
     count
@@ -76,18 +81,6 @@ pub fn signed_count(width: Width, n: u64) -> u64
     if n < sign { n } else { 0 }
 }
 
-/// The value of a field with dimensions, which has so many items.
-fn listed_at(order: Order, form: Form, count: usize, bytes: &[u8]) -> Result<Spelled, BodyReason>
-    ensures { Tells (listed_in order form count bytes.now) form bytes.now result }
-{
-    match form {
-        Form::Number(width) => plain_at(count.saturating_mul(width.size()), bytes),
-        Form::Pair(width) => plain_at(count.saturating_mul(2 * width.size()), bytes),
-        Form::Text => texts_at(order, count, bytes),
-        Form::Link => plain_at(count.saturating_mul(LINK_SIZE), bytes),
-    }
-}
-
 /// So many bytes.
 fn plain_at(length: usize, bytes: &[u8]) -> Result<Spelled, BodyReason>
     ensures { TellsLength length bytes.now result }
@@ -103,7 +96,7 @@ fn plain_at(length: usize, bytes: &[u8]) -> Result<Spelled, BodyReason>
 
 /// One text.
 fn text_at(order: Order, bytes: &[u8]) -> Result<Spelled, BodyReason>
-    ensures { Tells (single_in order Form.Text bytes.now) Form.Text bytes.now result }
+    ensures { Tells (single_in order Text bytes.now) Text bytes.now result }
 {
     let length = match text_length(order, bytes) {
         Ok(length) => length,
@@ -117,7 +110,7 @@ fn text_at(order: Order, bytes: &[u8]) -> Result<Spelled, BodyReason>
 
 /// So many texts.
 fn texts_at(order: Order, count: usize, bytes: &[u8]) -> Result<Spelled, BodyReason>
-    ensures { Tells (listed_in order Form.Text count bytes.now) Form.Text bytes.now result }
+    ensures { Tells (listed_in order Text count bytes.now) Text bytes.now result }
 {
     let mut at = 0;
     let mut zeros = 0;

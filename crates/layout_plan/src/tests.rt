@@ -279,7 +279,7 @@ fn span(plan: &Plan, order: Order, body: &[u8], field: u32) -> Option<(usize, us
 }
 
 /// The link of this number, or None where the body does not read or has no more links.
-fn link(plan: &Plan, order: Order, body: &[u8], k: u64) -> Option<Link> {
+pub fn link(plan: &Plan, order: Order, body: &[u8], k: u64) -> Option<Link> {
     let Ok(measured) = measure(plan, order, body) else {
         return None;
     };

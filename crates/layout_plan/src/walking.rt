@@ -1,21 +1,24 @@
 //! A walk over the varied fields of a body. The fields of fixed width between them are passed over by the plan's marks.
-ghost use Rattle.std.specs.Prelude.{◌≡◌, ◌+◌, ◌*◌, ◌≤◌, ◌<◌, ◌^◌, ℕ, true, List, min, length, slice_get, slice_index, Some};
+ghost use Rattle.std.specs.Prelude.{◌≡◌, ◌+◌, ◌*◌, ◌≤◌, ◌<◌, ◌^◌, ℕ, List, min, length, Some};
 ghost use Rattle.scalar_types.specs.declared.Order.{Order};
-ghost use Rattle.layout_plan.specs.declared.fields.Field.{Field};
-ghost use Rattle.layout_plan.specs.Layout.{IsEarlier};
-ghost use Rattle.layout_plan.specs.Body.{extent_of, item_count};
-ghost use Rattle.layout_plan.specs.Marks.{mark_of, end_of, place_of, fixed_width, is_varied};
-ghost use Rattle.layout_plan.specs.Walking.{number_at, ArePlaces, AreNumbers, IsWalked, HasWalked, TellsReached, TellsStart};
+ghost use Rattle.layout_plan.specs.Layout.{IsLayout};
+ghost use Rattle.layout_plan.specs.Marks.{mark_of, end_of, place_of, fixed_width};
+ghost use Rattle.layout_plan.specs.Steps.{number_by, counter_value, step_count, IsStep, HasRoom, IsThere, AreThere};
+ghost use Rattle.layout_plan.specs.Walking.{number_at, IsWalked, HasWalked, TellsReached, TellsStart};
 
 use crate::marks::Mark;
 use crate::spelled::{capped_product, signed_count, varied_at};
-use crate::{BodyFault, BodyReason, Count, Field, Form, Plan};
-use scalar_types::{Order, read_num};
+use crate::steps::{Counter, Step, single_width};
+use crate::{BodyFault, BodyReason, Field, Plan};
+use scalar_types::{Order, Width, read_num};
+
+/// So many varied fields, which most layouts have no more than, have the least room on the stack.
+pub const FEWEST_FIELDS: usize = 8;
 
 /// The most fields of a layout.
 pub const FIELD_LIMIT: usize = 4096;
 
-/// The most varied fields of a walk for which little room is made.
+/// The most fields for which little room is made on the stack, which all but a few layouts have no more than.
 pub const FEW_FIELDS: usize = 64;
 
 /// What a walk over some fields found.
@@ -41,8 +44,9 @@ pub fn walk(
 {
     let count = plan.mark(k).varied as usize;
     let mut zero_texts = 0;
-    for (j, each) in plan.varied()[..count].iter().enumerate() {
-        match pass(plan, *each as usize, order, body, ends, zero_texts) {
+    let passed = &plan.steps()[..count];
+    for (j, step) in passed.iter().enumerate() {
+        match pass(plan, step, order, body, ends, zero_texts) {
             Ok(walked) => {
                 ends[j] = walked.at;
                 zero_texts = walked.zero_texts;
@@ -50,33 +54,34 @@ pub fn walk(
             Err(fault) => return Err(fault),
         }
     }
-    match start_of(plan, k, body, ends) {
+    match start_of(plan, k, plan.mark(k), body, ends) {
         Ok(at) => Ok(Walked { at, zero_texts }),
         Err(fault) => Err(fault),
     }
 }
 
-/// Walks over field k, which is varied, after the varied fields before it, which have so many texts of a length of 0 alone.
+/// Walks over the field of a step, after the varied fields before it, which have so many texts of a length of 0 alone.
 fn pass(
     plan: &Plan,
-    k: usize,
+    step: &Step,
     order: Order,
     body: &[u8],
     ends: &[usize],
     zero_texts: u64,
 ) -> Result<Walked, BodyFault>
-    requires field { (f : Field) × (slice_get plan.now k ≡ Some f) × (is_varied f ≡ true) }
-    requires walked { IsWalked order plan.now body.now (mark_of plan.now k).varied ends.now zero_texts }
-    ensures { TellsReached order plan.now body.now (k + 1) k ends.now result }
+    requires layout { IsLayout plan.now }
+    requires step { IsStep plan.now step.now }
+    requires walked { IsWalked order plan.now body.now (mark_of plan.now step.now.field).varied ends.now zero_texts }
+    ensures { TellsReached order plan.now body.now (step.now.field + 1) step.now.field ends.now result }
 {
-    let start = match start_of(plan, k, body, ends) {
+    let k = step.field as usize;
+    let start = match start_of(plan, k, step.mark, body, ends) {
         Ok(start) => start,
         Err(fault) => return Err(fault),
     };
-    let field = &plan.fields()[k];
     let rest = &body[start..];
-    let count = count_at(plan, k, order, body, ends, rest.len() + 1);
-    match varied_at(order, field, count, rest) {
+    let count = count_at(step, order, body, ends, rest.len() + 1);
+    match varied_at(order, step.items, count, rest) {
         Ok(spelled) => Ok(Walked {
             at: start + spelled.length,
             zero_texts: zero_texts + spelled.zero_texts,
@@ -85,43 +90,44 @@ fn pass(
     }
 }
 
-/// The items of field k, or the cap where that is less, by the numbers that stand in the fields before it.
-fn count_at(plan: &Plan, k: usize, order: Order, body: &[u8], ends: &[usize], cap: usize) -> usize
-    requires field { k < length plan.now }
-    requires places { ArePlaces order plan.now body.now k ends.now }
-    ensures { (f : Field) (numbers : List ℕ) → slice_get plan.now k ≡ Some f → AreNumbers order plan.now body.now k numbers → result ≡ min (item_count numbers f.counts) cap }
+/// The items of a step, or the cap where that is less, by the numbers that stand in the fields before it.
+fn count_at(step: &Step, order: Order, body: &[u8], ends: &[usize], cap: usize) -> usize
+    requires { AreThere body.now ends.now step.now.counters }
+    ensures { result ≡ min (step_count order body.now ends.now step.now) cap }
 {
-    let counts = plan.fields()[k].counts.as_slice();
-    let mut count = cap.min(1);
-    for each in counts {
-        count = capped_product(count, extent_at(plan, k, order, body, ends, *each), cap);
+    let counters = step.counters.as_slice();
+    let mut count = step.factor.min(cap);
+    for counter in counters {
+        if count == 0 {
+            return 0;
+        }
+        count = capped_product(count, extent_at(order, body, ends, counter), cap);
     }
     count
 }
 
-/// The items of field k along one dimension.
-fn extent_at(plan: &Plan, k: usize, order: Order, body: &[u8], ends: &[usize], each: Count) -> u64
-    requires field { k < length plan.now }
-    requires places { ArePlaces order plan.now body.now k ends.now }
-    requires earlier { IsEarlier k each }
-    ensures { (numbers : List ℕ) → AreNumbers order plan.now body.now k numbers → result ≡ extent_of numbers each }
+/// What a counter counts.
+fn extent_at(order: Order, body: &[u8], ends: &[usize], counter: &Counter) -> u64
+    requires { IsThere body.now ends.now counter.now }
+    ensures { result ≡ counter_value order body.now ends.now counter.now }
 {
-    match each {
-        Count::Fixed(n) => u64::from(n),
-        Count::Of(i) => counter_at(plan, i as usize, order, body, ends),
-        Count::OfSigned(i, width) => {
-            signed_count(width, counter_at(plan, i as usize, order, body, ends))
-        }
+    let start = place(counter.mark, ends);
+    let n = number_by(order, counter.width, &body[start..]);
+    match counter.signed {
+        Some(width) => signed_count(width, n),
+        None => n,
     }
 }
 
-/// The number that field i is, before field k, or 0 where it is none.
-fn counter_at(plan: &Plan, i: usize, order: Order, body: &[u8], ends: &[usize]) -> u64
-    requires { (k : ℕ) × ArePlaces order plan.now body.now k ends.now × (i < k) × (k ≤ length plan.now) }
-    ensures { (k : ℕ) (numbers : List ℕ) → i < k → ArePlaces order plan.now body.now k ends.now → AreNumbers order plan.now body.now k numbers → result ≡ slice_index numbers i }
+/// The number of this width at the front of the bytes, or 0 where there is none.
+fn number_by(order: Order, width: Option<Width>, bytes: &[u8]) -> u64
+    requires { HasRoom width bytes.now }
+    ensures { result ≡ number_by order width bytes.now }
 {
-    let start = place(plan.mark(i), ends);
-    number_at(order, &plan.fields()[i], &body[start..])
+    match width {
+        Some(width) => read_num(order, width, bytes),
+        None => 0,
+    }
 }
 
 /// The number that a field at the front of the bytes is, or 0 where it is none.
@@ -129,22 +135,25 @@ pub fn number_at(order: Order, field: &Field, bytes: &[u8]) -> u64
     requires { (width : ℕ) → fixed_width field.now.form field.now.counts ≡ Some width → width ≤ length bytes.now }
     ensures { result ≡ number_at order field.now.form field.now.counts bytes.now }
 {
-    if !field.counts.is_empty() {
-        return 0;
-    }
-    match field.form {
-        Form::Number(width) => read_num(order, width, bytes),
-        _ => 0,
-    }
+    number_by(order, single_width(field), bytes)
 }
 
-/// Where field k begins, or the fields end, after a walk over the varied fields before it. All fields before it must be whole.
-fn start_of(plan: &Plan, k: usize, body: &[u8], ends: &[usize]) -> Result<usize, BodyFault>
+/// Where field k begins, or the fields end, by its mark, after a walk over the varied fields before it. All fields before it must be
+/// whole.
+fn start_of(
+    plan: &Plan,
+    k: usize,
+    mark: Mark,
+    body: &[u8],
+    ends: &[usize],
+) -> Result<usize, BodyFault>
+    requires layout { IsLayout plan.now }
     requires field { k ≤ length plan.now }
+    requires mark { mark ≡ mark_of plan.now k }
     requires walked { HasWalked plan.now body.now (mark_of plan.now k).varied ends.now }
     ensures { (order : Order) (zero_texts : ℕ) → IsWalked order plan.now body.now (mark_of plan.now k).varied ends.now zero_texts → TellsStart order plan.now body.now k ends.now zero_texts result }
 {
-    let at = place(plan.mark(k), ends);
+    let at = place(mark, ends);
     if at <= body.len() {
         return Ok(at);
     }

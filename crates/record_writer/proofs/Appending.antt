@@ -1,7 +1,6 @@
 -- Bytes that grow at the end, item by item.
-use Rattle.std.proofs.Common.{◌≡◌, ℕ, ◌+◌, ◌<◌, ◌≤◌, List, [], ◌∷◌, ◌++◌, length, take, get_or, Result, Ok, Err, is_ok}
-use Rattle.std.proofs.Common.{OnOk, refl, sym, ap, ◌∙◌, subst, add-one, append_assoc, append-nil}
-use Rattle.std.specs.Prelude.{if◌then◌else◌}
+use Rattle.std.proofs.Common.{◌≡◌, ℕ, ◌+◌, ◌<◌, ◌≤◌, List, [], ◌∷◌, ◌++◌, length, take, get_or, refl, sym, ap, ◌∙◌}
+use Rattle.std.proofs.Common.{subst, add-one, append_assoc, append-nil}
 use Rattle.std.proofs.lemmas.List.{take_all}
 use Rattle.std.proofs.Math.Seq.{take-suc}
 use Rattle.record_values.specs.Spelling.{AreItems}
@@ -40,10 +39,3 @@ pub items_all : {X : Type 0} (R : X → List ℕ → Type 0) (xs : List X) (i : 
 items_all R xs i old new all before =
     Appends-as (AreItems R (take i xs)) (AreItems R xs) old new before
     (λ bytes items. subst (λ ys. AreItems R ys bytes) (take_all i xs all) items)
-
--- bytes are appended, or none where that is refused
-pub appends_bytes : {A E : Type 0} (P : List ℕ → Type 0) (r : Result A E) (xs old new : List ℕ)
-    → new ≡ (if is_ok r then old ++ xs else old) → P xs → Appends (λ bytes. OnOk r (P bytes)) old new
-appends_bytes P (Ok x) xs old new appended p = record { items = xs; whole = appended; related = p }
-appends_bytes P (Err e) xs old new appended p =
-    record { items = []; whole = appended ∙ sym (append-nil old); related = tt }

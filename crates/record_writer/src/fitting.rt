@@ -3,16 +3,10 @@ ghost use Rattle.std.specs.Prelude.{◌≡◌, ◌≤◌, ◌<◌, ◌-◌, ◌^
 ghost use Rattle.layout_plan.specs.Body.{number_of, item_count};
 ghost use Rattle.record_writer.specs.Fit.{FitsWidth, PairFitsWidth, IsShortText, FitsSingle, FitsListed, FitsField, Fits};
 
-use layout_plan::{Count, Field, Form, capped_count};
+use layout_plan::{Count, FEW_FIELDS, FIELD_LIMIT, Field, Form, capped_count};
 use record_values::Value;
 use scalar_types::Width;
 use type_text::Name;
-
-/// The most fields that a layout has.
-const FIELD_LIMIT: usize = 4096;
-
-/// So many numbers of values, which all but a few layouts have, are put on a small part of the stack.
-const FEW_FIELDS: usize = 64;
 
 /// The most bytes of a text.
 const TEXT_LIMIT: usize = 65_534;

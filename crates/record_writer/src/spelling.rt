@@ -1,17 +1,18 @@
 //! The spelling of values, each text closed by its zero byte, at the end of bytes. Where memory is
 //! out, a part of it may stand there.
 ghost use Rattle.std.specs.Prelude.{ℕ, List, map, All, OnOk};
-ghost use Rattle.record_values.specs.Spelling.{IsNumber, IsPair, IsClosedText, IsLink, AreItems};
+ghost use Rattle.record_values.specs.Spelling.{IsNumber, IsPair, IsClosedText, AreItems};
 ghost use Rattle.layout_plan.specs.Appends.{Appends};
 ghost use Rattle.layout_plan.specs.Body.{number_of, IsSingleBy, IsListedBy, IsFieldBy};
 ghost use Rattle.layout_plan.specs.Written.{AreClosedFields};
 ghost use Rattle.record_writer.specs.Fit.{FitsWidth, PairFitsWidth, IsShortText, FitsSingle, FitsListed, FitsField, Fits};
 
+use layout_plan::spelling::{push_link, push_links, push_number};
 use layout_plan::{Field, Form};
 use record_values::Value;
-use scalar_types::{Order, Width, write_num};
+use scalar_types::{Order, Width};
 use std::alloc::AllocError;
-use type_text::{Link, Name};
+use type_text::Name;
 
 /// Appends a value for each field.
 pub fn push_fields(
@@ -146,18 +147,6 @@ fn push_texts(order: Order, texts: &[Name], into: &mut Vec<u8>) -> Result<(), Al
     Ok(())
 }
 
-fn push_links(order: Order, links: &[Link], into: &mut Vec<u8>) -> Result<(), AllocError>
-    ensures { Appends
-        (λ bytes. OnOk result (AreItems (IsLink order) links.now bytes))
-        into.old.items
-        into.new.items }
-{
-    for link in links {
-        push_link(order, link, into)?;
-    }
-    Ok(())
-}
-
 fn push_text(order: Order, text: &Name, into: &mut Vec<u8>) -> Result<(), AllocError>
     requires { IsShortText text.now }
     ensures { Appends
@@ -170,16 +159,6 @@ fn push_text(order: Order, text: &Name, into: &mut Vec<u8>) -> Result<(), AllocE
     into.extend_from_slice(bytes)?;
     into.push(0)?;
     Ok(())
-}
-
-fn push_link(order: Order, link: &Link, into: &mut Vec<u8>) -> Result<(), AllocError>
-    ensures { Appends
-        (λ bytes. OnOk result (IsLink order link.now bytes))
-        into.old.items
-        into.new.items }
-{
-    push_number(order, Width::Two, u64::from(link.class), into)?;
-    push_number(order, Width::Four, u64::from(link.instance), into)
 }
 
 fn push_pair(
@@ -196,16 +175,4 @@ fn push_pair(
 {
     push_number(order, width, pair.0, into)?;
     push_number(order, width, pair.1, into)
-}
-
-fn push_number(order: Order, width: Width, n: u64, into: &mut Vec<u8>) -> Result<(), AllocError>
-    requires { FitsWidth width n }
-    ensures { Appends
-        (λ bytes. OnOk result (IsNumber order width n bytes))
-        into.old.items
-        into.new.items }
-{
-    let mut bytes = [0; 8];
-    write_num(order, width, n, &mut bytes);
-    into.extend_from_slice(&bytes[..width.size()])
 }

@@ -1,11 +1,15 @@
-use Rattle.std.proofs.Common.{arith, ap, length}
-use Rattle.layout_plan.proofs.MarkLemmas.{mark_of-few, mark_of-all}
+use Rattle.std.proofs.Common.{arith, length}
+use Rattle.layout_plan.proofs.MarkLemmas.{mark_of-few}
+use Rattle.layout_plan.proofs.StepLemmas.{steps-all}
 use Rattle.layout_plan.proofs.rewriting.push_body.Goals as goal
 
 pub push_fields-requires-clause-room : goal.push_fields-requires-clause-room
-push_fields-requires-clause-room c =
-    omega (arith, ap length c.varied.ensures.numbers, mark_of-all c.args.plan.now)
+push_fields-requires-clause-room c = omega (arith, steps-all c.args.plan.now c.steps-count.result.now c.steps-count.ensures.steps)
 
-pub push_fields-requires-else-varied-le-FEW_FIELDS-clause-room : goal.push_fields-requires-else-varied-le-FEW_FIELDS-clause-room
-push_fields-requires-else-varied-le-FEW_FIELDS-clause-room c =
-    omega (arith, mark_of-few c.args.plan.now (length c.args.plan.now) (omega arith), c.varied.ensures.layout.short)
+pub push_fields-requires-then-count-le-FEW_FIELDS-clause-room : goal.push_fields-requires-then-count-le-FEW_FIELDS-clause-room
+push_fields-requires-then-count-le-FEW_FIELDS-clause-room c =
+    omega (arith, steps-all c.args.plan.now c.steps-count.result.now c.steps-count.ensures.steps)
+
+pub push_fields-requires-else-count-le-FEW_FIELDS-clause-room : goal.push_fields-requires-else-count-le-FEW_FIELDS-clause-room
+push_fields-requires-else-count-le-FEW_FIELDS-clause-room c =
+    omega (arith, mark_of-few c.args.plan.now (length c.args.plan.now) (omega arith), c.steps-count.ensures.layout.short)

@@ -1,13 +1,15 @@
-use Rattle.std.proofs.lemmas.Bool.{both_ways}
-use Rattle.layout_plan.proofs.SpelledLemmas.{field_in-listed, varied-single}
+use Rattle.std.proofs.Common.{sym, ◌∙◌, arith}
+use Rattle.layout_plan.proofs.StepLemmas.{Tells-text, Tells-texts, Tells-plain}
 use Rattle.layout_plan.proofs.spelled.varied_at.Goals as goal
 
-pub returns-then-is_empty : goal.returns-then-is_empty
-returns-then-is_empty c = λ numbers count.
-    varied-single c.args.order numbers c.args.field.now c.args.bytes.now c.text_at.result (c.is_empty.ensures.0 c.if-is_empty.true) c.requires c.text_at.ensures
+pub returns-in-OneText : goal.returns-in-OneText
+returns-in-OneText c = λ f numbers varied items count.
+    Tells-text c.args.order numbers f.form f.counts c.args.bytes.now c.text_at.result (sym c.in-OneText.is ∙ items) c.text_at.ensures
 
-pub returns : goal.returns
-returns c = λ numbers count.
-    let field = c.args.field.now in
-    let same = field_in-listed c.args.order numbers field.form field.counts c.args.bytes.now c.args.count (λ none. both_ways c.is_empty.result c.if-is_empty.false (c.is_empty.ensures.1 none)) count in
-    rw same c.listed_at.ensures
+pub returns-in-Texts : goal.returns-in-Texts
+returns-in-Texts c = λ f numbers varied items count.
+    Tells-texts c.args.order numbers f.form f.counts c.args.count c.args.bytes.now c.texts_at.result (sym c.in-Texts.is ∙ items) count c.texts_at.ensures
+
+pub returns-in-Plain : goal.returns-in-Plain
+returns-in-Plain c = λ f numbers varied items count.
+    Tells-plain c.args.order numbers f.form f.counts c.args.count c.in-Plain.size c.saturating_mul.result c.args.bytes.now c.plain_at.result varied (sym c.in-Plain.is ∙ items) count c.saturating_mul.ensures (omega arith) c.plain_at.ensures

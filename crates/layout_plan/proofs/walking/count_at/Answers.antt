@@ -1,32 +1,37 @@
-use Rattle.std.proofs.Common.{◌+◌, arith, ap, length, get_or, zero-add, refl, sym, ◌∙◌}
-use Rattle.std.proofs.lemmas.Option.{slice_get_read, same_Some}
+use Rattle.std.proofs.Common.{◌≡◌, ◌∙◌, ◌*◌, min, length, drop, ap, sym, arith}
 use Rattle.std.proofs.lemmas.List.{drop_all}
-use Rattle.layout_plan.specs.declared.fields.Count.TheVariants.{Fixed}
-use Rattle.layout_plan.specs.declared.fields.Field.{Field}
-use Rattle.layout_plan.specs.Layout.{IsEarlier}
-use Rattle.layout_plan.specs.Body.{item_count}
-use Rattle.layout_plan.proofs.SpelledLemmas.{capped-more}
-use Rattle.layout_plan.proofs.CounterLemmas.{AreSound-at}
+use Rattle.layout_plan.specs.declared.steps.Counter.{Counter}
+use Rattle.layout_plan.specs.Steps.{product_by, counter_value, AreThere}
+use Rattle.layout_plan.proofs.StepLemmas.{product-more, capped-first, capped-none}
 use Rattle.layout_plan.proofs.walking.count_at.Goals as goal
 
-pub loop-each-preserved : goal.loop-each-preserved
-loop-each-preserved c = record {
-  product = λ numbers are. capped-more numbers c.as_slice-counts.result.now c.loop-each.each-index _ c.loop-each.count c.extent_at.result c.capped_product-count.result c.args.cap (omega arith) (c.extent_at.ensures numbers are) c.capped_product-count.ensures ∙ c.loop-each.invariant.product numbers are;
+pub loop-counter-init : goal.loop-counter-init
+loop-counter-init c = record {
+  product = capped-first c.args.step.now.factor (product_by (counter_value c.args.order c.args.body.now c.args.ends.now) c.as_slice-counters.result.now) c.min-count.result c.args.cap (omega (arith, c.min-count.ensures));
+  capped = omega (arith, c.min-count.ensures);
+}
+
+pub extent_at-requires : goal.extent_at-requires
+extent_at-requires c =
+    let there : AreThere c.args.body.now c.args.ends.now c.as_slice-counters.result.now = rw c.as_slice-counters.ensures c.requires in
+    there c.loop-counter.counter-index _ c.loop-counter-test.true
+
+pub loop-counter-preserved : goal.loop-counter-preserved
+loop-counter-preserved c = record {
+  product = product-more (counter_value c.args.order c.args.body.now c.args.ends.now) c.as_slice-counters.result.now c.loop-counter.counter-index _ c.loop-counter.count c.extent_at.result c.capped_product-count.result c.args.cap (omega arith) c.extent_at.ensures c.capped_product-count.ensures ∙ c.loop-counter.invariant.product;
   capped = omega (arith, c.capped_product-count.ensures);
 }
 
-pub extent_at-requires-clause-earlier : goal.extent_at-requires-clause-earlier
-extent_at-requires-clause-earlier c =
-    let is = slice_get_read c.args.plan.now (length c.args.plan.now) c.args.k c.index-fields-k.result refl c.requires.field (rw c.fields.ensures.fields at c.index-fields-k.is) in
-    let earlier = AreSound-at 0 c.args.k c.args.plan.now c.index-fields-k.result c.fields.ensures.layout.sound is in
-    let counts = c.as_slice-counts.ensures ∙ ap (λ (f : Field). f.counts) (sym c.index-fields-k.is) in
-    let here : IsEarlier (0 + c.args.k) (get_or c.as_slice-counts.result.now c.loop-each.each-index (Fixed 0)) = rw (← counts) at earlier c.loop-each.each-index (Fixed 0) c.loop-each-test.true in
-    rw (zero-add c.args.k) at here
+pub returns-then-count-eq0 : goal.returns-then-count-eq0
+returns-then-count-eq0 c =
+    let value = product_by (counter_value c.args.order c.args.body.now c.args.ends.now) in
+    capped-none c.loop-counter.count (value (drop c.loop-counter.counter-index c.as_slice-counters.result.now)) (c.args.step.now.factor * value c.as_slice-counters.result.now) c.args.cap c.if-count-eq0.true c.loop-counter.invariant.product
+    ∙ ap (λ counters. min (c.args.step.now.factor * value counters) c.args.cap) c.as_slice-counters.ensures
 
 pub returns : goal.returns
-returns c = λ f numbers is are.
-    let here = slice_get_read c.args.plan.now (length c.args.plan.now) c.args.k c.index-fields-k.result refl c.requires.field (rw c.fields.ensures.fields at c.index-fields-k.is) in
-    let counts = c.as_slice-counts.ensures ∙ ap (λ (f : Field). f.counts) (sym c.index-fields-k.is ∙ same_Some c.index-fields-k.result f (sym here ∙ is)) in
-    let whole = c.loop-each.invariant.product numbers are in
-    let none = ap (item_count numbers) (drop_all c.loop-each.each-index c.as_slice-counts.result.now c.loop-each-test.false) in
-    omega (arith, rw none at whole, c.loop-each.invariant.capped, ap (item_count numbers) counts)
+returns c =
+    let value = product_by (counter_value c.args.order c.args.body.now c.args.ends.now) in
+    let none = ap value (drop_all c.loop-counter.counter-index c.as_slice-counters.result.now c.loop-counter-test.false) in
+    let whole : min (c.loop-counter.count * 1) c.args.cap ≡ min (c.args.step.now.factor * value c.as_slice-counters.result.now) c.args.cap = rw none at c.loop-counter.invariant.product in
+    let same = ap (λ counters. min (c.args.step.now.factor * value counters) c.args.cap) c.as_slice-counters.ensures in
+    omega (arith, whole, same, c.loop-counter.invariant.capped)

@@ -1,25 +1,17 @@
-use Rattle.std.proofs.Common.{◌<◌, arith, ap, sym, ◌∙◌}
-use Rattle.layout_plan.specs.Body.{extent_of, signed_count}
+use Rattle.std.proofs.Common.{◌≤◌, ◌+◌, ◌∙◌, ap, drop, arith}
+use Rattle.std.proofs.lemmas.List.{take_rest}
+use Rattle.layout_plan.specs.Steps.{number_by, HasRoom, counted}
 use Rattle.layout_plan.proofs.walking.extent_at.Goals as goal
 
-pub counter_at-requires : goal.counter_at-requires
-counter_at-requires c =
-    let lt : c.in-Of.i < c.args.k = rw c.in-Of.is at c.requires.earlier in
-    (c.args.k, c.requires.places, lt, omega arith)
+pub place-start-requires-clause-below : goal.place-start-requires-clause-below
+place-start-requires-clause-below c = omega (arith, c.requires.within)
 
-pub counter_at-requires-in-OfSigned : goal.counter_at-requires-in-OfSigned
-counter_at-requires-in-OfSigned c =
-    let lt : c.in-OfSigned.i < c.args.k = rw c.in-OfSigned.is at c.requires.earlier in
-    (c.args.k, c.requires.places, lt, omega arith)
+pub slice_bounds-number_by-count : goal.slice_bounds-number_by-count
+slice_bounds-number_by-count c = omega (arith, c.requires.within, c.place-start.ensures)
 
-pub returns-in-Of : goal.returns-in-Of
-returns-in-Of c = λ numbers are.
-    let lt : c.in-Of.i < c.args.k = rw c.in-Of.is at c.requires.earlier in
-    c.counter_at.ensures c.args.k numbers lt c.requires.places are ∙ ap (extent_of numbers) (sym c.in-Of.is)
+pub slice_bounds-number_by-start : goal.slice_bounds-number_by-start
+slice_bounds-number_by-start c = omega (arith, c.requires.within, c.place-start.ensures)
 
-pub returns-in-OfSigned : goal.returns-in-OfSigned
-returns-in-OfSigned c = λ numbers are.
-    let lt : c.in-OfSigned.i < c.args.k = rw c.in-OfSigned.is at c.requires.earlier in
-    c.signed_count.ensures
-    ∙ ap (signed_count c.in-OfSigned.width) (c.counter_at-in-OfSigned.ensures c.args.k numbers lt c.requires.places are)
-    ∙ ap (extent_of numbers) (sym c.in-OfSigned.is)
+pub number_by-n-requires : goal.number_by-n-requires
+number_by-n-requires c =
+    rw (take_rest c.args.body.now c.place-start.result, c.place-start.ensures) c.requires.whole

@@ -1,10 +1,10 @@
-use Rattle.std.proofs.Common.{ap, ◌∙◌}
-use Rattle.scalar_types.specs.Number.{size_of}
-use Rattle.layout_plan.specs.declared.fields.Form.TheVariants.{Number}
-use Rattle.layout_plan.specs.Marks.{fixed_width}
+use Rattle.layout_plan.proofs.StepLemmas.{number-room, number_at-by}
 use Rattle.layout_plan.proofs.walking.number_at.Goals as goal
 
-pub read_num-requires : goal.read_num-requires
-read_num-requires c =
-    let none = c.is_empty.ensures.0 c.if-not-is_empty.false in
-    c.requires (size_of c.in-Number.width) (ap (λ form. fixed_width form c.args.field.now.counts) c.in-Number.is ∙ ap (fixed_width (Number c.in-Number.width)) none)
+pub number_by-requires : goal.number_by-requires
+number_by-requires c =
+    number-room c.args.field.now.form c.args.field.now.counts c.args.bytes.now c.single_width.result c.single_width.ensures c.requires
+
+pub returns : goal.returns
+returns c =
+    number_at-by c.args.order c.args.field.now.form c.args.field.now.counts c.args.bytes.now c.single_width.result c.number_by.result c.single_width.ensures c.number_by.ensures

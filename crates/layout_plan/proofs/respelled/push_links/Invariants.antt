@@ -1,9 +1,0 @@
-use Rattle.scalar_types.specs.declared.Order.TheVariants.{Little}
-use Rattle.record_values.specs.Spelling.{IsLink}
-use Rattle.layout_plan.specs.Appends.{Appends}
-use Rattle.layout_plan.proofs.RespelledLemmas.{SpellsUpTo}
-use Rattle.layout_plan.proofs.respelled.push_links.Given as goal
-
--- the links so far
-abbrev pub invariant-loop-link : goal.invariant-loop-link
-invariant-loop-link l = Appends (SpellsUpTo (IsLink Little) l.links l.link-index) l.fn.into.items l.into.items

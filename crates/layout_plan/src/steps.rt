@@ -1,0 +1,191 @@
+//! The steps of a walk over the varied fields, made once: what each field's items are, and where the numbers stand that count them.
+ghost use Rattle.std.specs.Prelude.{◌≡◌, ◌≤◌, ◌<◌, ◌++◌, length, slice_get, All, Some, IfOk, OnOk};
+ghost use Rattle.layout_plan.specs.Layout.{AreSound, IsEarlier};
+ghost use Rattle.layout_plan.specs.declared.fields.Field.{Field};
+ghost use Rattle.layout_plan.specs.Marks.{first_mark, marks_from};
+ghost use Rattle.layout_plan.specs.Steps.{single_width, items_of, numeral_of, factor_of, counter_of, counters_by, counters_of, step_of, steps_of};
+
+use crate::links::LINK_SIZE;
+use crate::marks::{Mark, fixed_width};
+use crate::spelled::capped_product;
+use crate::{Count, Field, Form};
+use scalar_types::Width;
+use std::alloc::{AllocError, Global};
+use type_text::ItemList;
+
+/// What the bytes of a varied field are.
+#[derive(Clone, Copy)]
+pub enum Items {
+    OneText,
+    Texts,
+    /// Items of so many bytes.
+    Plain(u32),
+}
+
+/// The number of a field that a dimension names.
+#[derive(Clone, Copy)]
+pub struct Counter {
+    /// Where it stands.
+    pub mark: Mark,
+    /// Its width, or None where the field is no number, which counts as 0.
+    pub width: Option<Width>,
+    /// The width of a signed number, which counts as 0 where it is below zero.
+    pub signed: Option<Width>,
+}
+
+/// One varied field.
+#[derive(Drop)]
+pub struct Step {
+    pub field: u32,
+    pub mark: Mark,
+    pub items: Items,
+    /// The product of its numeral dimensions, or 2^64 - 1 where that is less.
+    pub factor: usize,
+    /// One for each of its other dimensions.
+    pub counters: ItemList<Counter>,
+}
+
+/// The steps of the varied fields, in order.
+pub fn steps_of(
+    alloc: Global,
+    fields: &[Field],
+    marks: &[Mark],
+) -> Result<ItemList<Step>, AllocError>
+    requires marks { marks.now ≡ marks_from first_mark fields.now }
+    requires sound { AreSound 0 fields.now }
+    requires short { length fields.now ≤ 4096 }
+    ensures { IfOk result (λ steps. steps ≡ steps_of fields.now) }
+{
+    let mut steps = ItemList::new(alloc);
+    for (i, field) in fields.iter().enumerate() {
+        if fixed_width(field).is_some() {
+            continue;
+        }
+        let step = step_of(alloc, fields, marks, i)?;
+        steps.push(step)?;
+    }
+    Ok(steps)
+}
+
+/// The step of field i.
+fn step_of(alloc: Global, fields: &[Field], marks: &[Mark], i: usize) -> Result<Step, AllocError>
+    requires marks { marks.now ≡ marks_from first_mark fields.now }
+    requires sound { AreSound 0 fields.now }
+    requires short { length fields.now ≤ 4096 }
+    requires field { i < length fields.now }
+    ensures { (f : Field) → slice_get fields.now i ≡ Some f → IfOk result (λ step. step ≡ step_of fields.now i f) }
+{
+    let field = &fields[i];
+    let counts = field.counts.as_slice();
+    let counters = counters_of(alloc, fields, marks, counts)?;
+    Ok(Step {
+        field: i as u32,
+        mark: marks[i],
+        items: items_of(field),
+        factor: factor_of(counts),
+        counters,
+    })
+}
+
+/// What the bytes of a varied field are.
+fn items_of(field: &Field) -> Items
+    ensures { result ≡ items_of field.now.form field.now.counts }
+{
+    match field.form {
+        Form::Number(width) => Items::Plain(width.size() as u32),
+        Form::Pair(width) => Items::Plain(2 * width.size() as u32),
+        Form::Link => Items::Plain(LINK_SIZE as u32),
+        Form::Text => {
+            if field.counts.is_empty() {
+                Items::OneText
+            } else {
+                Items::Texts
+            }
+        }
+    }
+}
+
+/// The product of the numeral dimensions, capped.
+fn factor_of(counts: &[Count]) -> usize
+    ensures { result ≡ factor_of counts.now }
+{
+    let mut factor = 1;
+    for count in counts {
+        factor = capped_product(factor, numeral_of(*count), usize::MAX);
+    }
+    factor
+}
+
+/// The numeral of a dimension, or 1 where it is a name.
+fn numeral_of(count: Count) -> u64
+    ensures { result ≡ numeral_of count }
+{
+    match count {
+        Count::Fixed(n) => u64::from(n),
+        Count::Of(_) | Count::OfSigned(_, _) => 1,
+    }
+}
+
+/// The counters of the dimensions that are names.
+fn counters_of(
+    alloc: Global,
+    fields: &[Field],
+    marks: &[Mark],
+    counts: &[Count],
+) -> Result<ItemList<Counter>, AllocError>
+    requires marks { marks.now ≡ marks_from first_mark fields.now }
+    requires earlier { All (IsEarlier (length fields.now)) counts.now }
+    ensures { IfOk result (λ counters. counters ≡ counters_of fields.now counts.now) }
+{
+    let mut counters = ItemList::new(alloc);
+    for count in counts {
+        push_counter(fields, marks, *count, &mut counters)?;
+    }
+    Ok(counters)
+}
+
+/// Appends the counter of a dimension that is a name.
+fn push_counter(
+    fields: &[Field],
+    marks: &[Mark],
+    count: Count,
+    counters: &mut ItemList<Counter>,
+) -> Result<(), AllocError>
+    requires marks { marks.now ≡ marks_from first_mark fields.now }
+    requires earlier { IsEarlier (length fields.now) count }
+    ensures { OnOk result (counters.new ≡ counters.old ++ counters_by fields.now count) }
+{
+    let counter = match count {
+        Count::Fixed(_) => return Ok(()),
+        Count::Of(i) => counter_of(fields, marks, i as usize, None),
+        Count::OfSigned(i, width) => counter_of(fields, marks, i as usize, Some(width)),
+    };
+    counters.push(counter)?;
+    Ok(())
+}
+
+/// The counter of a dimension that names field i.
+fn counter_of(fields: &[Field], marks: &[Mark], i: usize, signed: Option<Width>) -> Counter
+    requires marks { marks.now ≡ marks_from first_mark fields.now }
+    requires field { i < length fields.now }
+    ensures { result ≡ counter_of fields.now i signed }
+{
+    Counter {
+        mark: marks[i],
+        width: single_width(&fields[i]),
+        signed,
+    }
+}
+
+/// The width of a field that is one number, or None where it is none.
+pub fn single_width(field: &Field) -> Option<Width>
+    ensures { result ≡ single_width field.now.form field.now.counts }
+{
+    if !field.counts.is_empty() {
+        return None;
+    }
+    match field.form {
+        Form::Number(width) => Some(width),
+        _ => None,
+    }
+}
