@@ -17,10 +17,14 @@ use std::alloc::Global;
 
 /// What is found of the file of that name.
 pub fn check_file<S: Shelf>(alloc: Global, shelf: &mut S, name: &str) -> Result<Finding, ShelfError>
-    ensures finding { IfOk result (λ finding. Told (S.outside shelf.old).files (λ held. Told (held name.now) (λ file. IsFinding file finding))) }
-    ensures missing { Told (S.outside shelf.old).files (λ held. held name.now ≡ None → IsErrOf result ShelfError.Failed) }
+    ensures finding { IfOk result
+        (λ finding. Told (S.outside shelf.old).files
+        (λ held. Told (held name.now) (λ file. IsFinding file finding))) }
+    ensures missing { Told (S.outside shelf.old).files (λ held. held name.now ≡ None
+        → IsErrOf result ShelfError.Failed) }
     ensures shelf { ReadsOneFile (S.outside shelf.old) (S.outside shelf.new) name.now }
-    ensures failed { IsErrOf result ShelfError.Failed → Rose (S.outside shelf.old).faults (S.outside shelf.new).faults }
+    ensures failed { IsErrOf result ShelfError.Failed
+        → Rose (S.outside shelf.old).faults (S.outside shelf.new).faults }
 {
     let slot = shelf.source(alloc, name)?;
     match check(alloc, shelf, slot) {
@@ -35,9 +39,12 @@ pub fn check_file<S: Shelf>(alloc: Global, shelf: &mut S, name: &str) -> Result<
 fn check<S: Shelf>(alloc: Global, shelf: &mut S, slot: u32) -> Result<Finding, ReadError>
     requires source { IsSource (S.outside shelf.old).slots slot }
     requires beginning { Told (reading_at (S.outside shelf.old).slots slot) (λ reading. reading.at ≡ 0) }
-    ensures finding { IfOk result (λ finding. Told (file_of (S.outside shelf.old) slot) (λ file. IsFinding file finding)) }
-    ensures fault { (fault : Fault) → result ≡ Err (ReadError.Fault fault) → Told (file_of (S.outside shelf.old) slot) (λ file. IsFirstFault file fault) }
-    ensures device { result ≡ Err ReadError.Device → Rose (S.outside shelf.old).faults (S.outside shelf.new).faults }
+    ensures finding { IfOk result
+        (λ finding. Told (file_of (S.outside shelf.old) slot) (λ file. IsFinding file finding)) }
+    ensures fault { (fault : Fault) → result ≡ Err (ReadError.Fault fault)
+        → Told (file_of (S.outside shelf.old) slot) (λ file. IsFirstFault file fault) }
+    ensures device { result ≡ Err ReadError.Device
+        → Rose (S.outside shelf.old).faults (S.outside shelf.new).faults }
     ensures draws { Draws (S.outside shelf.old) (S.outside shelf.new) slot }
 {
     let mut reader = ItemReader::begin(alloc, shelf, slot)?;

@@ -25,19 +25,26 @@ pub fn run<S: Shelf, O: Sink>(
     shelf: &mut S,
     out: &mut O,
 ) -> Outcome
-    ensures answer { Told (S.outside shelf.old).files (λ files. (reply : Reply) → IsDue files (texts words.now) reply → IsAnswer result reply.outcome) }
-    ensures text { Told (S.outside shelf.old).files (λ files. (reply : Reply) → IsDue files (texts words.now) reply → Prints result reply.text (O.output out.old) (O.output out.new)) }
+    ensures answer { Told (S.outside shelf.old).files (λ files. (reply : Reply)
+        → IsDue files (texts words.now) reply → IsAnswer result reply.outcome) }
+    ensures text { Told (S.outside shelf.old).files (λ files. (reply : Reply)
+        → IsDue files (texts words.now) reply
+        → Prints result reply.text (O.output out.old) (O.output out.new)) }
 
     // Over every shelf, also one that tells nothing.
     ensures usage { result ≡ Outcome.Usage → command_of (texts words.now) ≡ None }
     ensures no_command { command_of (texts words.now) ≡ None → IsAnswer result Outcome.Usage }
-    ensures device { result ≡ Outcome.Device → Rose (S.outside shelf.old).faults (S.outside shelf.new).faults ⊎ Rose (O.output out.old).faults (O.output out.new).faults }
+    ensures device { result ≡ Outcome.Device → Rose (S.outside shelf.old).faults (S.outside shelf.new).faults
+        ⊎ Rose (O.output out.old).faults (O.output out.new).faults }
 
     // What the shelf is then.
     ensures files { (S.outside shelf.new).files ≡ (S.outside shelf.old).files }
-    ensures slots { take (length (S.outside shelf.old).slots) (S.outside shelf.new).slots ≡ (S.outside shelf.old).slots }
+    ensures slots { take (length (S.outside shelf.old).slots) (S.outside shelf.new).slots
+        ≡ (S.outside shelf.old).slots }
     ensures given { length (S.outside shelf.new).slots ≤ length (S.outside shelf.old).slots + length words.now }
-    ensures misses { Told (S.outside shelf.old).files (λ files. (S.outside shelf.old).misses < (S.outside shelf.new).misses → IsDue files (texts words.now) (reply_with Outcome.Device)) }
+    ensures misses { Told (S.outside shelf.old).files
+        (λ files. (S.outside shelf.old).misses < (S.outside shelf.new).misses
+        → IsDue files (texts words.now) (reply_with Outcome.Device)) }
 {
     match read_words(words) {
         None => answer_line(alloc, out, Outcome::Usage),
@@ -48,12 +55,17 @@ pub fn run<S: Shelf, O: Sink>(
 
 /// `walk FILE`.
 fn run_walk<S: Shelf, O: Sink>(alloc: Global, file: &str, shelf: &mut S, out: &mut O) -> Outcome
-    ensures answer { Told (S.outside shelf.old).files (λ files. (reply : Reply) → IsWalkDue (files file.now) reply → IsAnswer result reply.outcome) }
-    ensures text { Told (S.outside shelf.old).files (λ files. (reply : Reply) → IsWalkDue (files file.now) reply → Prints result reply.text (O.output out.old) (O.output out.new)) }
+    ensures answer { Told (S.outside shelf.old).files (λ files. (reply : Reply)
+        → IsWalkDue (files file.now) reply → IsAnswer result reply.outcome) }
+    ensures text { Told (S.outside shelf.old).files (λ files. (reply : Reply) → IsWalkDue (files file.now) reply
+        → Prints result reply.text (O.output out.old) (O.output out.new)) }
     ensures command { result ≡ Outcome.Usage → ⊥ }
-    ensures device { result ≡ Outcome.Device → Rose (S.outside shelf.old).faults (S.outside shelf.new).faults ⊎ Rose (O.output out.old).faults (O.output out.new).faults }
+    ensures device { result ≡ Outcome.Device → Rose (S.outside shelf.old).faults (S.outside shelf.new).faults
+        ⊎ Rose (O.output out.old).faults (O.output out.new).faults }
     ensures shelf { ReadsOneFile (S.outside shelf.old) (S.outside shelf.new) file.now }
-    ensures misses { Told (S.outside shelf.old).files (λ files. (S.outside shelf.old).misses < (S.outside shelf.new).misses → IsWalkDue (files file.now) (reply_with Outcome.Device)) }
+    ensures misses { Told (S.outside shelf.old).files
+        (λ files. (S.outside shelf.old).misses < (S.outside shelf.new).misses
+        → IsWalkDue (files file.now) (reply_with Outcome.Device)) }
 {
     match walk_file(alloc, shelf, file) {
         Ok(verdict) => answer_walk(alloc, out, verdict),
@@ -64,12 +76,17 @@ fn run_walk<S: Shelf, O: Sink>(alloc: Global, file: &str, shelf: &mut S, out: &m
 
 /// `check FILE`.
 fn run_check<S: Shelf, O: Sink>(alloc: Global, file: &str, shelf: &mut S, out: &mut O) -> Outcome
-    ensures answer { Told (S.outside shelf.old).files (λ files. (reply : Reply) → IsCheckDue (files file.now) reply → IsAnswer result reply.outcome) }
-    ensures text { Told (S.outside shelf.old).files (λ files. (reply : Reply) → IsCheckDue (files file.now) reply → Prints result reply.text (O.output out.old) (O.output out.new)) }
+    ensures answer { Told (S.outside shelf.old).files (λ files. (reply : Reply)
+        → IsCheckDue (files file.now) reply → IsAnswer result reply.outcome) }
+    ensures text { Told (S.outside shelf.old).files (λ files. (reply : Reply)
+        → IsCheckDue (files file.now) reply → Prints result reply.text (O.output out.old) (O.output out.new)) }
     ensures command { result ≡ Outcome.Usage → ⊥ }
-    ensures device { result ≡ Outcome.Device → Rose (S.outside shelf.old).faults (S.outside shelf.new).faults ⊎ Rose (O.output out.old).faults (O.output out.new).faults }
+    ensures device { result ≡ Outcome.Device → Rose (S.outside shelf.old).faults (S.outside shelf.new).faults
+        ⊎ Rose (O.output out.old).faults (O.output out.new).faults }
     ensures shelf { ReadsOneFile (S.outside shelf.old) (S.outside shelf.new) file.now }
-    ensures misses { Told (S.outside shelf.old).files (λ files. (S.outside shelf.old).misses < (S.outside shelf.new).misses → IsCheckDue (files file.now) (reply_with Outcome.Device)) }
+    ensures misses { Told (S.outside shelf.old).files
+        (λ files. (S.outside shelf.old).misses < (S.outside shelf.new).misses
+        → IsCheckDue (files file.now) (reply_with Outcome.Device)) }
 {
     match check_file(alloc, shelf, file) {
         Ok(finding) => answer_check(alloc, out, finding),

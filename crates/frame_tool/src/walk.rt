@@ -26,10 +26,14 @@ enum Found {
 
 /// The verdict on the file of that name.
 pub fn walk_file<S: Shelf>(alloc: Global, shelf: &mut S, name: &str) -> Result<Verdict, ShelfError>
-    ensures verdict { IfOk result (λ verdict. Told (S.outside shelf.old).files (λ held. Told (held name.now) (λ file. IsVerdict file verdict))) }
-    ensures missing { Told (S.outside shelf.old).files (λ held. held name.now ≡ None → IsErrOf result ShelfError.Failed) }
+    ensures verdict { IfOk result
+        (λ verdict. Told (S.outside shelf.old).files
+        (λ held. Told (held name.now) (λ file. IsVerdict file verdict))) }
+    ensures missing { Told (S.outside shelf.old).files (λ held. held name.now ≡ None
+        → IsErrOf result ShelfError.Failed) }
     ensures shelf { ReadsOneFile (S.outside shelf.old) (S.outside shelf.new) name.now }
-    ensures failed { IsErrOf result ShelfError.Failed → Rose (S.outside shelf.old).faults (S.outside shelf.new).faults }
+    ensures failed { IsErrOf result ShelfError.Failed
+        → Rose (S.outside shelf.old).faults (S.outside shelf.new).faults }
 {
     let slot = shelf.source(alloc, name)?;
     let Ok(mut reader) = SlotReader::new(alloc, slot) else {
@@ -44,7 +48,8 @@ pub fn walk_file<S: Shelf>(alloc: Global, shelf: &mut S, name: &str) -> Result<V
 /// The verdict on the bytes that are still to come.
 fn walk<S: Shelf>(shelf: &mut S, reader: &mut SlotReader) -> Result<Verdict, Failed>
     requires { IsSource (S.outside shelf.old).slots reader.old.slot }
-    ensures verdict { IfOk result (λ verdict. Told (to_come (S.outside shelf.old) reader.old) (λ file. IsVerdict file verdict)) }
+    ensures verdict { IfOk result
+        (λ verdict. Told (to_come (S.outside shelf.old) reader.old) (λ file. IsVerdict file verdict)) }
     ensures draws { Draws (S.outside shelf.old) (S.outside shelf.new) reader.old.slot }
     ensures failed { OnErr result (Rose (S.outside shelf.old).faults (S.outside shelf.new).faults) }
 {
@@ -72,7 +77,8 @@ fn walk_structures<S: Shelf>(
     order: Order,
 ) -> Result<Verdict, Failed>
     requires { IsSource (S.outside shelf.old).slots reader.old.slot }
-    ensures verdict { IfOk result (λ verdict. Told (to_come (S.outside shelf.old) reader.old) (λ rest. FindsOn order rest verdict)) }
+    ensures verdict { IfOk result
+        (λ verdict. Told (to_come (S.outside shelf.old) reader.old) (λ rest. FindsOn order rest verdict)) }
     ensures draws { Draws (S.outside shelf.old) (S.outside shelf.new) reader.old.slot }
     ensures failed { OnErr result (Rose (S.outside shelf.old).faults (S.outside shelf.new).faults) }
 {
@@ -99,8 +105,10 @@ fn find_structure<S: Shelf>(
 ) -> Result<Found, Failed>
     requires source { IsSource (S.outside shelf.old).slots reader.old.slot }
     requires within { at ≤ file_limit }
-    ensures found { IfOk result (λ found. Told (to_come (S.outside shelf.old) reader.old) (λ rest. IsFound order at rest found)) }
-    ensures moves { IfOk result (λ found. Moves (S.outside shelf.old) (S.outside shelf.new) reader.old reader.new at found) }
+    ensures found { IfOk result
+        (λ found. Told (to_come (S.outside shelf.old) reader.old) (λ rest. IsFound order at rest found)) }
+    ensures moves { IfOk result
+        (λ found. Moves (S.outside shelf.old) (S.outside shelf.new) reader.old reader.new at found) }
     ensures refused { OnErr result (Draws (S.outside shelf.old) (S.outside shelf.new) reader.old.slot) }
     ensures failed { OnErr result (Rose (S.outside shelf.old).faults (S.outside shelf.new).faults) }
 {
@@ -125,7 +133,8 @@ fn body_size(length: u64) -> u64
 /// Judges what stands at a place by the bytes that were seen there and the length that they tell.
 fn judge(at: u64, seen: u64, length: u64) -> Found
     requires { at ≤ file_limit }
-    ensures { (left told : ℕ) → seen ≡ min left (14 + body_size_of length) → (14 ≤ left → told ≡ length) → Judges at left told result }
+    ensures { (left told : ℕ) → seen ≡ min left (14 + body_size_of length) → (14 ≤ left → told ≡ length)
+        → Judges at left told result }
 {
     if seen == 0 {
         Found::End

@@ -1,10 +1,12 @@
 -- Where structures and items end: what may stand at a place takes 14 bytes at least, and ends within the file.
-use Rattle.std.proofs.Common.{◌≡◌, ℕ, ◌+◌, ◌-◌, ◌≤◌, List, [], ◌∷◌, length, take, drop, sum_by, refl, ap, arith, length-take, length-drop}
+use Rattle.std.proofs.Common.{◌≡◌, ℕ, ◌+◌, ◌-◌, ◌≤◌, List, [], ◌∷◌, length, take, drop, sum_by, refl, ap, arith}
+use Rattle.std.proofs.Common.{length-take, length-drop}
 use Rattle.std.proofs.lemmas.List.Sums.{sum_by-cons}
 use Rattle.scalar_types.specs.declared.Order.{Order}
 use Rattle.dictionary.specs.declared.entries.Element.{Element}
 use Rattle.item_reader.specs.declared.kind.Kind.{Kind}
-use Rattle.item_reader.specs.declared.kind.Kind.TheVariants.{FrSH, FrSE, FrameH, FrEndOfFrame, FrTOC, FrEndOfFile, Other}
+use Rattle.item_reader.specs.declared.kind.Kind.TheVariants.{FrSH, FrSE, FrameH, FrEndOfFrame, FrTOC, FrEndOfFile}
+use Rattle.item_reader.specs.declared.kind.Kind.TheVariants.{Other}
 use Rattle.item_reader.specs.Structure.{Structure, size_of, end_of, common_at, file_limit, StandsWhole}
 use Rattle.item_reader.specs.Kind.{kind_of}
 use Rattle.item_reader.specs.Record.{weight_of}
@@ -29,7 +31,8 @@ end_within order file s stands =
     )
 
 -- a run of FrSEs that begins below a limit ends below it, where each structure does that stands whole
-run_within : (order : Order) (file : List ℕ) (limit : ℕ) → ((s : Structure) → StandsWhole order file s → end_of s ≤ limit)
+run_within : (order : Order) (file : List ℕ) (limit : ℕ)
+    → ((s : Structure) → StandsWhole order file s → end_of s ≤ limit)
     → (at : ℕ) (run : List Structure) (elements : List Element) → at ≤ limit → AreElements order file at run elements
     → at + sum_by size_of run ≤ limit
 run_within order file limit ends at [] [] within are = omega (arith, within)

@@ -1,5 +1,6 @@
 -- Items that each may stand, followed to their end: a file that is closed there, or a fault. They are one list.
-use Rattle.std.proofs.Common.{◌≡◌, ℕ, zero, suc, ◌+◌, ◌<◌, ◌≤◌, ◌⊎◌, inl, inr, Bool, true, false, eqb, List, [], ◌∷◌, length, Option, Some, None, refl, sym, ap, subst, ◌∙◌, arith}
+use Rattle.std.proofs.Common.{◌≡◌, ℕ, zero, suc, ◌+◌, ◌<◌, ◌≤◌, ◌⊎◌, inl, inr, Bool, true, false, eqb, List, [], ◌∷◌}
+use Rattle.std.proofs.Common.{length, Option, Some, None, refl, sym, ap, subst, ◌∙◌, arith}
 use Rattle.std.proofs.lemmas.Bool.{eqb-true, eqb-false, ne_eqb}
 use Rattle.std.proofs.lemmas.Option.{same_Some}
 use Rattle.scalar_types.specs.declared.Order.{Order}
@@ -48,7 +49,8 @@ no_fault order file b item may =
     told.2
 
 -- at an end no item may stand
-pub no_item : (order : Order) (file : List ℕ) (b : Before) (item : Item) → MayStand order file b item → IsEnd order file b → ⊥
+pub no_item : (order : Order) (file : List ℕ) (b : Before) (item : Item) → MayStand order file b item
+    → IsEnd order file b → ⊥
 no_item order file b item may (inl end) =
     let unclosed : b.closed ≡ false = (is-judged order file b item may).0 in
     let closed : b.closed ≡ true = end.closed in

@@ -5,14 +5,19 @@ use Rattle.dictionary.specs.declared.entries.Entry.{Entry}
 use Rattle.dictionary.specs.Dictionary.{step}
 use Rattle.layout_plan.specs.Layout.{layout_of}
 use Rattle.layout_plan.specs.Reading.{body_in}
-use Rattle.item_reader.specs.declared.reason.Reason.TheVariants.{CutRecord, LengthSmall, NoLayout, BodyLong, BadText, StrayElement, ClassRange, NameTwice, NoFrameH, NoEnd}
+use Rattle.item_reader.specs.declared.reason.Reason.TheVariants.{CutRecord, LengthSmall, NoLayout, BodyLong, BadText}
+use Rattle.item_reader.specs.declared.reason.Reason.TheVariants.{StrayElement, ClassRange, NameTwice, NoFrameH, NoEnd}
 use Rattle.item_reader.specs.Item.{nothing_yet}
 use Rattle.item_reader.specs.Fault.{Here, fault_here, fault_at}
 use Rattle.item_reader.specs.Described.{run_at}
 
 -- a file of these bytes, judged at its beginning, where this dictionary is held
 judging : List Entry → List ℕ → Here
-judging held bytes = record { order = Little; file = bytes; before = record nothing_yet { place = 0; dictionary = held } }
+judging held bytes = record {
+  order = Little;
+  file = bytes;
+  before = record nothing_yet { place = 0; dictionary = held };
+}
 
 -- the 14 bytes of a structure of this length and class
 head : ℕ → ℕ → List ℕ
@@ -20,7 +25,12 @@ head length class = length ∷ 0 ∷ 0 ∷ 0 ∷ 0 ∷ 0 ∷ 0 ∷ 0 ∷ 0 ∷ c
 
 -- a structure that ends frames, of class 9, without a field
 end : Entry
-end = record { class = 9; name = 70 ∷ 114 ∷ 69 ∷ 110 ∷ 100 ∷ 79 ∷ 102 ∷ 70 ∷ 114 ∷ 97 ∷ 109 ∷ 101 ∷ []; comment = []; elements = [] }
+end = record {
+  class = 9;
+  name = 70 ∷ 114 ∷ 69 ∷ 110 ∷ 100 ∷ 79 ∷ 102 ∷ 70 ∷ 114 ∷ 97 ∷ 109 ∷ 101 ∷ [];
+  comment = [];
+  elements = [];
+}
 
 nothing-left : fault_here (judging [] []) ≡ Some (fault_at NoEnd (0, 0))
 unfolding judging
@@ -47,7 +57,8 @@ element : fault_here (judging [] (head 20 2 ++ 0 ∷ 0 ∷ 0 ∷ 0 ∷ 0 ∷ 0 �
 unfolding judging head body_in
 element = refl
 
-element-unclosed : fault_here (judging [] (head 21 2 ++ 0 ∷ 0 ∷ 0 ∷ 0 ∷ 1 ∷ 0 ∷ 65 ∷ [])) ≡ Some (fault_at BadText (0, 2))
+element-unclosed : fault_here (judging [] (head 21 2 ++ 0 ∷ 0 ∷ 0 ∷ 0 ∷ 1 ∷ 0 ∷ 65 ∷ []))
+    ≡ Some (fault_at BadText (0, 2))
 unfolding judging head body_in
 element-unclosed = refl
 
@@ -60,7 +71,9 @@ entry-stands : fault_here (judging [] (head 20 1 ++ 0 ∷ 0 ∷ 7 ∷ 0 ∷ 0 �
 unfolding judging head body_in run_at step
 entry-stands = refl
 
-entry-named : fault_here (judging (record { class = 8; name = []; comment = []; elements = [] } ∷ []) (head 20 1 ++ 0 ∷ 0 ∷ 7 ∷ 0 ∷ 0 ∷ 0 ∷ [])) ≡ Some (fault_at NameTwice (0, 0))
+entry-named : fault_here
+    (judging (record { class = 8; name = []; comment = []; elements = [] } ∷ [])
+    (head 20 1 ++ 0 ∷ 0 ∷ 7 ∷ 0 ∷ 0 ∷ 0 ∷ [])) ≡ Some (fault_at NameTwice (0, 0))
 unfolding judging head body_in run_at step
 entry-named = refl
 

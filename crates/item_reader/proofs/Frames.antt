@@ -39,11 +39,13 @@ is_header-tells k e = absurd (true≢false (sym e))
 
 pub header-found : (held : List Entry) (frame : List Structure) → has_header held frame ≡ true → HasHeader held frame
 header-found held frame is =
-    found-Any (λ t. is_header_kind (kind_of held t.class)) (λ t. kind_of held t.class ≡ FrameH) frame (λ t e. is_header-tells (kind_of held t.class) e) is
+    found-Any (λ t. is_header_kind (kind_of held t.class)) (λ t. kind_of held t.class ≡ FrameH) frame
+    (λ t e. is_header-tells (kind_of held t.class) e) is
 
 pub header-again : (held : List Entry) (frame : List Structure) → HasHeader held frame → has_header held frame ≡ true
 header-again held frame some =
-    Any-found (λ t. is_header_kind (kind_of held t.class)) (λ t. kind_of held t.class ≡ FrameH) frame (λ t e. ap is_header_kind e) some
+    Any-found (λ t. is_header_kind (kind_of held t.class)) (λ t. kind_of held t.class ≡ FrameH) frame
+    (λ t e. ap is_header_kind e) some
 
 -- an empty frame
 pub empty-is : {A : Type 0} (xs : List A) → not (is_empty xs) ≡ false → xs ≡ []

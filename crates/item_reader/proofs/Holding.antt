@@ -1,5 +1,6 @@
 -- An entry that the dictionary is given: what was held before, and what it holds and the plans are after it.
-use Rattle.std.proofs.Common.{◌≡◌, inl, inr, ℕ, ◌+◌, ◌≤◌, true, false, List, [], ◌∷◌, ◌++◌, Option, Some, None, Result, Ok, Err, IfOk, IfErr, OnOk, refl, sym, ap, ◌∙◌, subst, is_some}
+use Rattle.std.proofs.Common.{◌≡◌, inl, inr, ℕ, ◌+◌, ◌≤◌, true, false, List, [], ◌∷◌, ◌++◌, Option, Some, None, Result}
+use Rattle.std.proofs.Common.{Ok, Err, IfOk, IfErr, OnOk, refl, sym, ap, ◌∙◌, subst, is_some}
 use Rattle.std.specs.Prelude.{nat_eq, nat_lt, IfSome}
 use Rattle.std.proofs.lemmas.Bool.{false≢true}
 use Rattle.std.proofs.lemmas.Option.{same_Some, none-some}
@@ -27,7 +28,9 @@ use Rattle.item_reader.proofs.Growing.{entry_of-own, longer, step-cases, plans-r
 -- ---- what the dictionary answers
 
 -- what is added without a fault is the step
-pub step-added : {U : Type 0} (held : List Entry) (e : Entry) (result : Result U AddFault) (new : List Entry) (u : U) → IfErr (step held e) (λ fault. result ≡ Err fault) → IfOk (step held e) (λ next. OnOk result (new ≡ next)) → result ≡ Ok u → step held e ≡ Ok new
+pub step-added : {U : Type 0} (held : List Entry) (e : Entry) (result : Result U AddFault) (new : List Entry) (u : U)
+    → IfErr (step held e) (λ fault. result ≡ Err fault) → IfOk (step held e) (λ next. OnOk result (new ≡ next))
+    → result ≡ Ok u → step held e ≡ Ok new
 step-added {U} held e result new u refused accepted ok = by (step held e) refl refused accepted
   where
     apart : (f : AddFault) → result ≡ Err f → ⊥
@@ -36,7 +39,8 @@ step-added {U} held e result new u refused accepted ok = by (step held e) refl r
         unlike : ◌≡◌ {A = Result U AddFault} (Err f) (Ok u) → ⊥
         unlike e = cc
 
-    by : (o : Result (List Entry) AddFault) → step held e ≡ o → IfErr o (λ fault. result ≡ Err fault) → IfOk o (λ next. OnOk result (new ≡ next)) → step held e ≡ Ok new
+    by : (o : Result (List Entry) AddFault) → step held e ≡ o → IfErr o (λ fault. result ≡ Err fault)
+        → IfOk o (λ next. OnOk result (new ≡ next)) → step held e ≡ Ok new
     by (Err f) is bad good = absurd (apart f bad)
     by (Ok next) is bad good =
         let same : new ≡ next = subst (λ r. OnOk r (new ≡ next)) ok good in
@@ -53,23 +57,27 @@ pub record Grew (held : List Entry) (e : Entry) (next : List Entry) (x : Entry) 
   pub next_is : next ≡ held ++ e ∷ []
   pub entry_is : x ≡ e
 
-pub grew : (held : List Entry) (e : Entry) (next : List Entry) (x : Entry) → step held e ≡ Ok next → entry_of held e.class ≡ None → entry_of next e.class ≡ Some x → Grew held e next x
+pub grew : (held : List Entry) (e : Entry) (next : List Entry) (x : Entry) → step held e ≡ Ok next
+    → entry_of held e.class ≡ None → entry_of next e.class ≡ Some x → Grew held e next x
 grew held e next x is fresh found = elim (step-cases held e next is) [
   | inl stays ↦ absurd (none-some x (sym fresh ∙ ap (λ d. entry_of d e.class) (sym stays.1) ∙ found))
   | inr grows ↦ record {
     next_is = grows.1;
-    entry_is = sym (same_Some e x (sym (entry_of-own held e fresh) ∙ ap (λ d. entry_of d e.class) (sym grows.1) ∙ found));
+    entry_is = sym (same_Some e x (sym (entry_of-own held e fresh)
+        ∙ ap (λ d. entry_of d e.class) (sym grows.1) ∙ found));
   }
 ]
 
 -- where the class is not held after it, or was held before it, the dictionary stays
-pub unchanged-none : (held : List Entry) (e : Entry) (next : List Entry) → step held e ≡ Ok next → entry_of next e.class ≡ None → next ≡ held
+pub unchanged-none : (held : List Entry) (e : Entry) (next : List Entry) → step held e ≡ Ok next
+    → entry_of next e.class ≡ None → next ≡ held
 unchanged-none held e next is none = elim (step-cases held e next is) [
   | inl stays ↦ stays.1
   | inr grows ↦ absurd (none-some e (sym none ∙ ap (λ d. entry_of d e.class) grows.1 ∙ entry_of-own held e grows.2))
 ]
 
-pub unchanged-known : (held : List Entry) (e : Entry) (next : List Entry) → step held e ≡ Ok next → is_some (entry_of held e.class) ≡ true → next ≡ held
+pub unchanged-known : (held : List Entry) (e : Entry) (next : List Entry) → step held e ≡ Ok next
+    → is_some (entry_of held e.class) ≡ true → next ≡ held
 unchanged-known held e next is known = elim (step-cases held e next is) [
   | inl stays ↦ stays.1
   | inr grows ↦ absurd (false≢true (ap is_some (sym grows.2) ∙ known))
@@ -77,13 +85,19 @@ unchanged-known held e next is known = elim (step-cases held e next is) [
 
 -- ---- what is held
 
-no-entry-fault : (r : Reached) (entry : Entry) (next : List Entry) → kind_here r ≡ FrSH → entry_from r.order r.file.items (structure (here_of r)) ≡ Some entry → step r.dictionary entry ≡ Ok next → nat_lt file_limit (place (here_of r) + told (here_of r)) ≡ false → first_here entry_reasons r ≡ None
+no-entry-fault : (r : Reached) (entry : Entry) (next : List Entry) → kind_here r ≡ FrSH
+    → entry_from r.order r.file.items (structure (here_of r)) ≡ Some entry → step r.dictionary entry ≡ Ok next
+    → nat_lt file_limit (place (here_of r) + told (here_of r)) ≡ false → first_here entry_reasons r ≡ None
 no-entry-fault r entry next is found stepped within =
     first_of-taken (here_of r) (FileLimit ∷ []) (refusal-of (here_of r) entry is found ∙ ap err_of stepped)
     ∙ first_of-passes FileLimit [] (here_of r) (ap (here (here_of r)) within)
 
 -- the dictionary stays as it was
-pub holds-unchanged : (r : Reached) (entry : Entry) (next : List Entry) → ((class : ℕ) → plan_of r.plans class ≡ layout_in r.dictionary class) → kind_here r ≡ FrSH → entry_from r.order r.file.items (structure (here_of r)) ≡ Some entry → step r.dictionary entry ≡ Ok next → nat_lt file_limit (place (here_of r) + told (here_of r)) ≡ false → next ≡ r.dictionary → Holds r entry false (record r { dictionary = next })
+pub holds-unchanged : (r : Reached) (entry : Entry) (next : List Entry)
+    → ((class : ℕ) → plan_of r.plans class ≡ layout_in r.dictionary class) → kind_here r ≡ FrSH
+    → entry_from r.order r.file.items (structure (here_of r)) ≡ Some entry → step r.dictionary entry ≡ Ok next
+    → nat_lt file_limit (place (here_of r) + told (here_of r)) ≡ false → next ≡ r.dictionary
+    → Holds r entry false (record r { dictionary = next })
 holds-unchanged r entry next plans is found stepped within same = record {
   none = no-entry-fault r entry next is found stepped within;
   step_is = stepped;
@@ -93,7 +107,11 @@ holds-unchanged r entry next plans is found stepped within same = record {
 }
 
 -- it grows, and the plan of its entry is kept
-pub holds-grown : (r : Reached) (entry x : Entry) (next : List Entry) (other : Reached) → ((class : ℕ) → plan_of r.plans class ≡ layout_in r.dictionary class) → kind_here r ≡ FrSH → entry_from r.order r.file.items (structure (here_of r)) ≡ Some entry → step r.dictionary entry ≡ Ok next → nat_lt file_limit (place (here_of r) + told (here_of r)) ≡ false → entry_of r.dictionary entry.class ≡ None → entry_of next entry.class ≡ Some x
+pub holds-grown : (r : Reached) (entry x : Entry) (next : List Entry) (other : Reached)
+    → ((class : ℕ) → plan_of r.plans class ≡ layout_in r.dictionary class) → kind_here r ≡ FrSH
+    → entry_from r.order r.file.items (structure (here_of r)) ≡ Some entry → step r.dictionary entry ≡ Ok next
+    → nat_lt file_limit (place (here_of r) + told (here_of r)) ≡ false → entry_of r.dictionary entry.class ≡ None
+    → entry_of next entry.class ≡ Some x
     → IfSome (layout_of x.elements) (λ fields. other.plans ≡ insert_entry nat_eq r.plans x.class fields)
     → (layout_of x.elements ≡ None → other.plans ≡ r.plans)
     → Holds r entry true (record r { dictionary = next; plans = other.plans })
@@ -101,15 +119,23 @@ holds-grown r entry x next other plans is found stepped within fresh held read u
   none = no-entry-fault r entry next is found stepped within;
   step_is = stepped;
   changed_is = (λ t. λ same. longer r.dictionary entry (sym g.next_is ∙ same), λ differs. refl);
-  plans = by (layout_of entry.elements) refl (subst (λ (e : Entry). IfSome (layout_of e.elements) (λ fields. other.plans ≡ insert_entry nat_eq r.plans e.class fields)) g.entry_is read) (subst (λ (e : Entry). layout_of e.elements ≡ None → other.plans ≡ r.plans) g.entry_is unread);
+  plans = by (layout_of entry.elements) refl
+      (subst (λ (e : Entry). IfSome (layout_of e.elements)
+      (λ fields. other.plans ≡ insert_entry nat_eq r.plans e.class fields)) g.entry_is read)
+      (subst (λ (e : Entry). layout_of e.elements ≡ None → other.plans ≡ r.plans) g.entry_is unread);
   rest = refl;
 }
   where
     g : Grew r.dictionary entry next x
     g = grew r.dictionary entry next x stepped fresh held
 
-    by : (o : Option (List Field)) → layout_of entry.elements ≡ o → IfSome o (λ fields. other.plans ≡ insert_entry nat_eq r.plans entry.class fields) → (layout_of entry.elements ≡ None → other.plans ≡ r.plans) → (class : ℕ) → plan_of other.plans class ≡ layout_in next class
+    by : (o : Option (List Field)) → layout_of entry.elements ≡ o
+        → IfSome o (λ fields. other.plans ≡ insert_entry nat_eq r.plans entry.class fields)
+        → (layout_of entry.elements ≡ None → other.plans ≡ r.plans) → (class : ℕ)
+        → plan_of other.plans class ≡ layout_in next class
     by None layout read unread class =
-        ap (λ ps. plan_of ps class) (unread layout) ∙ plans-unread r.plans r.dictionary entry plans fresh layout class ∙ ap (λ d. layout_in d class) (sym g.next_is)
+        ap (λ ps. plan_of ps class) (unread layout) ∙ plans-unread r.plans r.dictionary entry plans fresh layout class
+        ∙ ap (λ d. layout_in d class) (sym g.next_is)
     by (Some fs) layout read unread class =
-        ap (λ ps. plan_of ps class) read ∙ plans-read r.plans r.dictionary entry fs plans fresh layout class ∙ ap (λ d. layout_in d class) (sym g.next_is)
+        ap (λ ps. plan_of ps class) read ∙ plans-read r.plans r.dictionary entry fs plans fresh layout class
+        ∙ ap (λ d. layout_in d class) (sym g.next_is)

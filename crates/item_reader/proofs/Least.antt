@@ -1,10 +1,16 @@
 -- The reasons are judged in ascending order of their numbers, so the first that holds has the least.
-use Rattle.std.proofs.Common.{◌≡◌, ℕ, zero, suc, ◌≤◌, List, [], ◌∷◌, Option, Some, None, refl, sym, subst, ◌∙◌, arith, rules}
+use Rattle.std.proofs.Common.{◌≡◌, ℕ, zero, suc, ◌≤◌, List, [], ◌∷◌, Option, Some, None, refl, sym, subst, ◌∙◌, arith}
+use Rattle.std.proofs.Common.{rules}
 use Rattle.std.specs.Prelude.{slice_get}
 use Rattle.std.specs.Option.{option_map_or}
 use Rattle.std.proofs.lemmas.Option.{same_Some, none-some}
 use Rattle.item_reader.specs.declared.reason.Reason.{Reason}
-use Rattle.item_reader.specs.declared.reason.Reason.TheVariants.{CutRecord, LengthSmall, RecordLimit, FrameLimit, NoLayout, UnreadLayout, BodyShort, BodyLong, BadText, StrayElement, ClassRange, Redefined, NameTwice, ElementLimit, InstanceTwice, FrameHTwice, NoFrameH, LooseLink, OpenFrame, BadClosing, AfterTable, FrameCount, ByteCount, FileLimit, FramesLimit}
+use Rattle.item_reader.specs.declared.reason.Reason.TheVariants.{CutRecord, LengthSmall, RecordLimit, FrameLimit}
+use Rattle.item_reader.specs.declared.reason.Reason.TheVariants.{NoLayout, UnreadLayout, BodyShort, BodyLong, BadText}
+use Rattle.item_reader.specs.declared.reason.Reason.TheVariants.{StrayElement, ClassRange, Redefined, NameTwice}
+use Rattle.item_reader.specs.declared.reason.Reason.TheVariants.{ElementLimit, InstanceTwice, FrameHTwice, NoFrameH}
+use Rattle.item_reader.specs.declared.reason.Reason.TheVariants.{LooseLink, OpenFrame, BadClosing, AfterTable}
+use Rattle.item_reader.specs.declared.reason.Reason.TheVariants.{FrameCount, ByteCount, FileLimit, FramesLimit}
 use Rattle.item_reader.specs.declared.fault.Fault.{Fault}
 use Rattle.item_reader.specs.Reason.{number_of}
 use Rattle.item_reader.specs.Fault.{Here, Spot, judged, fault_at, first_of, reasons}
@@ -19,7 +25,8 @@ reasons-ascend : Ascend 0 reasons
 reasons-ascend = search (rules, arith)
 
 -- where a reason that may hold is among them
-place_among : (other : Reason) (h : Here) (spot : Spot) → judged other h ≡ Some spot → (i : ℕ) × (slice_get reasons i ≡ Some other)
+place_among : (other : Reason) (h : Here) (spot : Spot) → judged other h ≡ Some spot → (i : ℕ)
+    × (slice_get reasons i ≡ Some other)
 place_among CutRecord h spot holds = (0, refl)
 place_among LengthSmall h spot holds = (1, refl)
 place_among RecordLimit h spot holds = (2, refl)
@@ -48,7 +55,8 @@ place_among FramesLimit h spot holds = (24, refl)
 place_among _ h spot holds = absurd (none-some spot holds)
 
 -- what rises from a number on is at least that number
-at_least : (list : List Reason) (low i : ℕ) (other : Reason) → Ascend low list → slice_get list i ≡ Some other → low ≤ number_of other
+at_least : (list : List Reason) (low i : ℕ) (other : Reason) → Ascend low list → slice_get list i ≡ Some other
+    → low ≤ number_of other
 at_least [] low i other ascend is = absurd (none-some other is)
 at_least (reason ∷ list) low zero other ascend is =
     let P : Reason → Type 0 = λ r. low ≤ number_of r in
@@ -59,8 +67,10 @@ at_least (reason ∷ list) low (suc i) other ascend is =
     omega (arith, rest, first)
 
 -- the first of a reason and others is its own fault or one of theirs
-first_or_later : (reason other : Reason) (list : List Reason) (h : Here) (fault : Fault) (found : Option Spot) → judged reason h ≡ found
-    → option_map_or (λ spot. Some (fault_at reason spot)) found (first_of list h) ≡ Some fault → number_of reason ≤ number_of other
+first_or_later : (reason other : Reason) (list : List Reason) (h : Here) (fault : Fault) (found : Option Spot)
+    → judged reason h ≡ found
+    → option_map_or (λ spot. Some (fault_at reason spot)) found (first_of list h) ≡ Some fault
+    → number_of reason ≤ number_of other
     → (judged reason h ≡ None → first_of list h ≡ Some fault → number_of fault.reason ≤ number_of other)
     → number_of fault.reason ≤ number_of other
 first_or_later reason other list h fault (Some spot) is named first later =
@@ -69,7 +79,8 @@ first_or_later reason other list h fault (Some spot) is named first later =
 first_or_later reason other list h fault None is named first later = later is named
 
 -- what does not hold is no reason that does
-unheld : (reason other : Reason) (h : Here) (spot : Spot) → reason ≡ other → judged reason h ≡ None → judged other h ≡ Some spot → ⊥
+unheld : (reason other : Reason) (h : Here) (spot : Spot) → reason ≡ other → judged reason h ≡ None
+    → judged other h ≡ Some spot → ⊥
 unheld reason other h spot same none some =
     let P : Reason → Type 0 = λ r. judged r h ≡ None in
     none-some spot (sym (subst P same none) ∙ some)

@@ -64,7 +64,8 @@ fault-open h unclosed within =
     ∙ ap (λ ends. fault_by false ends h) (ne_eqb (place h) (length h.file) (λ same. omega (arith, within, same)))
 
 -- and where they are one, the first reason of its kind
-pub fault-kind : (r : Reached) (p : Placed) → r.closed ≡ false → IsHere r p → fault_here (here_of r) ≡ first_of (reasons_of (kind_here r)) (here_of r)
+pub fault-kind : (r : Reached) (p : Placed) → r.closed ≡ false → IsHere r p
+    → fault_here (here_of r) ≡ first_of (reasons_of (kind_here r)) (here_of r)
 fault-kind r p unclosed here =
     fault-open (here_of r) unclosed (within-here r p here)
     ∙ first_of-kind (here_of r) (within-here r p here) (whole-here r p here)

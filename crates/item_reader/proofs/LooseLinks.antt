@@ -19,29 +19,44 @@ use Rattle.item_reader.proofs.Bodies.{reading-found}
 use Rattle.item_reader.proofs.Weights.{layout-sound}
 
 -- the body of a structure that reads spells its values
-kept-body : (order : Order) (held : List Entry) (s : Structure) (fields : List Field) → layout_in held s.class ≡ Some fields → IsSome (reading_of order held s) → (tail : List ℕ) × IsBody order fields (values_of order held s) tail s.body
+kept-body : (order : Order) (held : List Entry) (s : Structure) (fields : List Field)
+    → layout_in held s.class ≡ Some fields → IsSome (reading_of order held s) → (tail : List ℕ)
+    × IsBody order fields (values_of order held s) tail s.body
 kept-body order held s fields layout reads =
     by (reading_by order s.body fields) refl (subst IsSome same reads)
   where
     same : reading_of order held s ≡ reading_by order s.body fields
     same = ap (option_and_then (reading_by order s.body)) layout
 
-    by : (o : Option Reading) → reading_by order s.body fields ≡ o → IsSome (reading_by order s.body fields) → (tail : List ℕ) × IsBody order fields (values_of order held s) tail s.body
+    by : (o : Option Reading) → reading_by order s.body fields ≡ o → IsSome (reading_by order s.body fields)
+        → (tail : List ℕ) × IsBody order fields (values_of order held s) tail s.body
     by (Some r) is h =
         let values : values_of order held s ≡ r.values =
-        ap (λ o. option_map_or (λ (reading : Reading). reading.values) o []) (same ∙ is) in
-        (r.tail, subst (λ vs. IsBody order fields vs r.tail s.body) (sym values) (reading-found order s.body fields r (layout-sound held s.class fields layout) is))
+        ap (λ o. option_map_or (λ (reading : Reading). reading.values) o []) (same ∙ is) in (
+          r.tail,
+          subst (λ vs. IsBody order fields vs r.tail s.body) (sym values)
+              (reading-found order s.body fields r (layout-sound held s.class fields layout) is),
+        )
     by None is h = absurd (false≢true (sym (ap is_some is) ∙ h))
 
 -- the same of a placed structure, by the bytes of its body
-pub placed-body : (order : Order) (held : List Entry) (file : List ℕ) (at : ℕ) (p : Placed) (fields : List Field) (body : List ℕ) → IsPlaced order file at p → Some fields ≡ layout_in held p.class → IsSome (reading_of order held (structure_at order file at)) → body ≡ body_of file p → (tail : List ℕ) × IsBody order fields (values_of order held (structure_at order file at)) tail body
+pub placed-body : (order : Order) (held : List Entry) (file : List ℕ) (at : ℕ) (p : Placed) (fields : List Field)
+    (body : List ℕ) → IsPlaced order file at p → Some fields ≡ layout_in held p.class
+    → IsSome (reading_of order held (structure_at order file at)) → body ≡ body_of file p → (tail : List ℕ)
+    × IsBody order fields (values_of order held (structure_at order file at)) tail body
 placed-body order held file at p fields body placed layout reads is =
     let class : (structure_at order file at).class ≡ p.class = ap (λ (s : Structure). s.class) placed.is in
     let same : (structure_at order file at).body ≡ body = ap (λ (s : Structure). s.body) placed.is ∙ sym is in
-    let found = kept-body order held (structure_at order file at) fields (ap (layout_in held) class ∙ sym layout) reads in
-    (found.0, subst (λ bytes. IsBody order fields (values_of order held (structure_at order file at)) found.0 bytes) same found.1)
+    let found = kept-body order held (structure_at order file at) fields (ap (layout_in held) class
+    ∙ sym layout) reads in (
+      found.0,
+      subst (λ bytes. IsBody order fields (values_of order held (structure_at order file at)) found.0
+          bytes) same found.1,
+    )
 
 -- the links that are put into an empty list are those of the values
-pub put-links : (order : Order) (fields : List Field) (values : List Value) (tail body : List ℕ) (old links : List FieldLink) → old ≡ [] → Appends (AreLinks order fields body) old links → IsBody order fields values tail body → links ≡ field_links 0 values
+pub put-links : (order : Order) (fields : List Field) (values : List Value) (tail body : List ℕ)
+    (old links : List FieldLink) → old ≡ [] → Appends (AreLinks order fields body) old links
+    → IsBody order fields values tail body → links ≡ field_links 0 values
 put-links order fields values tail body old links empty put spelled =
     put.whole ∙ ap (λ front. front ++ put.items) empty ∙ put.related values tail spelled

@@ -1,5 +1,6 @@
 -- The numbers that the end of a file tells, where its layout has them.
-use Rattle.std.proofs.Common.{◌≡◌, ℕ, zero, suc, ◌+◌, ◌<◌, ◌≤◌, Bool, true, false, ◌&&◌, cond, List, [], ◌∷◌, ◌++◌, length, Option, Some, None, refl, sym, ap, ◌∙◌, subst, arith}
+use Rattle.std.proofs.Common.{◌≡◌, ℕ, zero, suc, ◌+◌, ◌<◌, ◌≤◌, Bool, true, false, ◌&&◌, cond, List, [], ◌∷◌, ◌++◌}
+use Rattle.std.proofs.Common.{length, Option, Some, None, refl, sym, ap, ◌∙◌, subst, arith}
 use Rattle.std.specs.Prelude.{slice_get, option_and_then, codes}
 use Rattle.std.specs.List.{list_all}
 use Rattle.std.specs.Str.{bytes_eq}
@@ -20,7 +21,8 @@ use Rattle.dictionary.specs.Named.{first_named}
 use Rattle.layout_plan.specs.declared.fields.Form.TheVariants.{Number}
 use Rattle.layout_plan.specs.declared.fields.Count.{Count}
 use Rattle.layout_plan.specs.declared.fields.Field.{Field}
-use Rattle.layout_plan.specs.Layout.{form_of, has_no_dims, count_in, counts_of, is_check_sum, is_last, field_of_type, field_of, fields_after, layout_of}
+use Rattle.layout_plan.specs.Layout.{form_of, has_no_dims, count_in, counts_of, is_check_sum, is_last, field_of_type}
+use Rattle.layout_plan.specs.Layout.{field_of, fields_after, layout_of}
 use Rattle.layout_plan.specs.Body.{number_of, HasBody}
 use Rattle.layout_plan.specs.Plans.{plan_of}
 use Rattle.layout_plan.specs.Lent.{IsNumberField, HasNumberAt}
@@ -49,27 +51,35 @@ no-counts named (d ∷ ds) e = absurd (false≢true e)
 abbrev IsSingleNumber : Field → Type 0
 IsSingleNumber f = (w : Width) × (f.form ≡ Number w) × (f.counts ≡ [])
 
-single-field : (named : List ℕ → Option Count) (last : Bool) (e : Element) (f : Field) → is_single is_count e ≡ true → field_of named last e ≡ Some f → IsSingleNumber f
+single-field : (named : List ℕ → Option Count) (last : Bool) (e : Element) (f : Field) → is_single is_count e ≡ true
+    → field_of named last e ≡ Some f → IsSingleNumber f
 single-field named last e f single is = by (last && is_check_sum e) e.ty single is
   where
-    by : (is_sum : Bool) (o : Option ElementType) → option_map_or (λ ty. is_count ty.base && has_no_dims ty.dims) o false ≡ true → option_and_then (field_of_type named is_sum) o ≡ Some f → IsSingleNumber f
+    by : (is_sum : Bool) (o : Option ElementType)
+        → option_map_or (λ ty. is_count ty.base && has_no_dims ty.dims) o false ≡ true
+        → option_and_then (field_of_type named is_sum) o ≡ Some f → IsSingleNumber f
     by is_sum None single is = absurd (false≢true single)
     by is_sum (Some ty) single is =
         let both = and_parts (is_count ty.base) (has_no_dims ty.dims) single in
         let form = number-form ty.base both.0 in
         let whole : Field = record { form = form_of ty.base; counts = []; is_sum = is_sum } in
-        let made : field_of_type named is_sum ty ≡ Some whole = ap (option_map (λ counts. record { form = form_of ty.base; counts = counts; is_sum = is_sum })) (no-counts named ty.dims both.1) in
+        let made : field_of_type named is_sum ty ≡ Some whole =
+        ap (option_map (λ counts. record { form = form_of ty.base; counts = counts; is_sum = is_sum }))
+        (no-counts named ty.dims both.1) in
         let same : whole ≡ f = same_Some whole f (sym made ∙ is) in
         (form.0, sym (ap (λ (f : Field). f.form) same) ∙ form.1, sym (ap (λ (f : Field). f.counts) same))
 
 -- ---- the first element of a name
 
 -- the element that is found stands at its number
-named-at : (k : ℕ) (es : List Element) (name : List ℕ) (i : ℕ) (e : Element) → first_named k es name ≡ Some (i, e) → (j : ℕ) × (i ≡ k + j) × (slice_get es j ≡ Some e)
+named-at : (k : ℕ) (es : List Element) (name : List ℕ) (i : ℕ) (e : Element) → first_named k es name ≡ Some (i, e)
+    → (j : ℕ) × (i ≡ k + j) × (slice_get es j ≡ Some e)
 named-at k [] name i e is = absurd (none-some (i, e) is)
 named-at k (x ∷ xs) name i e is = by (bytes_eq name x.name) (named-at (k + 1) xs name i e) is
   where
-    by : (b : Bool) → (first_named (k + 1) xs name ≡ Some (i, e) → (j : ℕ) × (i ≡ (k + 1) + j) × (slice_get xs j ≡ Some e)) → cond b (Some (k, x)) (first_named (k + 1) xs name) ≡ Some (i, e) → (j : ℕ) × (i ≡ k + j) × (slice_get (x ∷ xs) j ≡ Some e)
+    by : (b : Bool) → (first_named (k + 1) xs name ≡ Some (i, e) → (j : ℕ) × (i ≡ (k + 1) + j)
+        × (slice_get xs j ≡ Some e)) → cond b (Some (k, x)) (first_named (k + 1) xs name) ≡ Some (i, e) → (j : ℕ)
+        × (i ≡ k + j) × (slice_get (x ∷ xs) j ≡ Some e)
     by true others f =
         let same : (k, x) ≡ (i, e) = same_Some (k, x) (i, e) f in
         (0, omega (arith, ap (λ (p : ℕ × Element). p.0) same), ap Some (ap (λ (p : ℕ × Element). p.1) same))
@@ -78,26 +88,42 @@ named-at k (x ∷ xs) name i e is = by (bytes_eq name x.name) (named-at (k + 1) 
         (suc later.0, omega (arith, later.1), later.2)
 
 -- the field at the number of an element is that of the element
-field-at : (earlier es : List Element) (fs : List Field) (j : ℕ) (e : Element) → fields_after earlier es ≡ Some fs → slice_get es j ≡ Some e → (named : List ℕ → Option Count) × (last : Bool) × (f : Field) × (slice_get fs j ≡ Some f) × (field_of named last e ≡ Some f)
+field-at : (earlier es : List Element) (fs : List Field) (j : ℕ) (e : Element) → fields_after earlier es ≡ Some fs
+    → slice_get es j ≡ Some e → (named : List ℕ → Option Count) × (last : Bool) × (f : Field)
+    × (slice_get fs j ≡ Some f) × (field_of named last e ≡ Some f)
 field-at earlier [] fs j e is at = absurd (none-some e at)
 field-at earlier (x ∷ xs) fs j e is at =
     first (λ rest k. field-at (earlier ++ x ∷ []) xs rest k e) (field_of (count_in earlier) (is_last xs) x) refl is
   where
     Found : List Field → Type 0
-    Found fs = (named : List ℕ → Option Count) × (last : Bool) × (f : Field) × (slice_get fs j ≡ Some f) × (field_of named last e ≡ Some f)
+    Found fs = (named : List ℕ → Option Count) × (last : Bool) × (f : Field) × (slice_get fs j ≡ Some f)
+        × (field_of named last e ≡ Some f)
 
     Later : Type 0
-    Later = (rest : List Field) (k : ℕ) → fields_after (earlier ++ x ∷ []) xs ≡ Some rest → slice_get xs k ≡ Some e → (named : List ℕ → Option Count) × (last : Bool) × (f : Field) × (slice_get rest k ≡ Some f) × (field_of named last e ≡ Some f)
+    Later = (rest : List Field) (k : ℕ) → fields_after (earlier ++ x ∷ []) xs ≡ Some rest → slice_get xs k ≡ Some e
+        → (named : List ℕ → Option Count) × (last : Bool) × (f : Field) × (slice_get rest k ≡ Some f)
+        × (field_of named last e ≡ Some f)
 
-    here : Later → (j : ℕ) → slice_get (x ∷ xs) j ≡ Some e → (f : Field) (rest : List Field) → field_of (count_in earlier) (is_last xs) x ≡ Some f → fields_after (earlier ++ x ∷ []) xs ≡ Some rest → (named : List ℕ → Option Count) × (last : Bool) × (g : Field) × (slice_get (f ∷ rest) j ≡ Some g) × (field_of named last e ≡ Some g)
-    here later zero at f rest is others = (count_in earlier, is_last xs, f, refl, ap (field_of (count_in earlier) (is_last xs)) (sym (same_Some x e at)) ∙ is)
+    here : Later → (j : ℕ) → slice_get (x ∷ xs) j ≡ Some e → (f : Field) (rest : List Field)
+        → field_of (count_in earlier) (is_last xs) x ≡ Some f → fields_after (earlier ++ x ∷ []) xs ≡ Some rest
+        → (named : List ℕ → Option Count) × (last : Bool) × (g : Field) × (slice_get (f ∷ rest) j ≡ Some g)
+        × (field_of named last e ≡ Some g)
+    here later zero at f rest is others = (
+      count_in earlier,
+      is_last xs,
+      f,
+      refl,
+      ap (field_of (count_in earlier) (is_last xs)) (sym (same_Some x e at)) ∙ is,
+    )
     here later (suc j) at f rest is others = later rest j others at
 
-    after : Later → (f : Field) → field_of (count_in earlier) (is_last xs) x ≡ Some f → (o : Option (List Field)) → fields_after (earlier ++ x ∷ []) xs ≡ o → option_map (λ fs. f ∷ fs) o ≡ Some fs → Found fs
+    after : Later → (f : Field) → field_of (count_in earlier) (is_last xs) x ≡ Some f → (o : Option (List Field))
+        → fields_after (earlier ++ x ∷ []) xs ≡ o → option_map (λ fs. f ∷ fs) o ≡ Some fs → Found fs
     after later f is None others e = absurd (none-some fs e)
     after later f is (Some rest) others e = subst Found (same_Some (f ∷ rest) fs e) (here later j at f rest is others)
 
-    first : Later → (o : Option Field) → field_of (count_in earlier) (is_last xs) x ≡ o → option_and_then (λ f. option_map (λ fs. f ∷ fs) (fields_after (earlier ++ x ∷ []) xs)) o ≡ Some fs → Found fs
+    first : Later → (o : Option Field) → field_of (count_in earlier) (is_last xs) x ≡ o
+        → option_and_then (λ f. option_map (λ fs. f ∷ fs) (fields_after (earlier ++ x ∷ []) xs)) o ≡ Some fs → Found fs
     first later None is e = absurd (none-some fs e)
     first later (Some f) is e = after later f is (fields_after (earlier ++ x ∷ []) xs) refl e
 
@@ -107,12 +133,14 @@ pub record IsNumbered (fs : List Field) (es : List Element) (i : ℕ) : Type 0 w
   pub within : i < length fs
   pub element : i < length es
 
-pub numbered : (es : List Element) (fs : List Field) (name : List ℕ) (i : ℕ) (e : Element) → layout_of es ≡ Some fs → has_named es name is_count ≡ true → first_named 0 es name ≡ Some (i, e) → IsNumbered fs es i
+pub numbered : (es : List Element) (fs : List Field) (name : List ℕ) (i : ℕ) (e : Element) → layout_of es ≡ Some fs
+    → has_named es name is_count ≡ true → first_named 0 es name ≡ Some (i, e) → IsNumbered fs es i
 unfolding layout_of
 numbered es fs name i e layout passes found =
     let at = named-at 0 es name i e found in
     let same : i ≡ at.0 = omega (arith, at.1) in
-    let single : is_single is_count e ≡ true = sym (ap (λ o. option_map_or (λ (found : ℕ × Element). is_single is_count found.1) o false) found) ∙ passes in
+    let single : is_single is_count e ≡ true =
+    sym (ap (λ o. option_map_or (λ (found : ℕ × Element). is_single is_count found.1) o false) found) ∙ passes in
     let field = field-at [] es fs at.0 e layout at.2 in
     let number = single-field field.0 field.1 e field.2 single field.4 in
     let get : slice_get fs i ≡ Some field.2 = ap (slice_get fs) same ∙ field.3 in
@@ -131,13 +159,15 @@ whole-count base e = absurd (false≢true e)
 size-count : (es : List Element) (name : List ℕ) → has_named es name is_size ≡ true → has_named es name is_count ≡ true
 size-count es name passes = by (first_named 0 es name) passes
   where
-    at : (o : Option ElementType) → option_map_or (λ ty. is_size ty.base && has_no_dims ty.dims) o false ≡ true → option_map_or (λ ty. is_count ty.base && has_no_dims ty.dims) o false ≡ true
+    at : (o : Option ElementType) → option_map_or (λ ty. is_size ty.base && has_no_dims ty.dims) o false ≡ true
+        → option_map_or (λ ty. is_count ty.base && has_no_dims ty.dims) o false ≡ true
     at None e = absurd (false≢true e)
     at (Some ty) e =
         let both = and_parts (is_size ty.base) (has_no_dims ty.dims) e in
         λ i. whole-count ty.base both.0 i && both.1 i
 
-    by : (o : Option (ℕ × Element)) → option_map_or (λ found. is_single is_size found.1) o false ≡ true → option_map_or (λ found. is_single is_count found.1) o false ≡ true
+    by : (o : Option (ℕ × Element)) → option_map_or (λ found. is_single is_size found.1) o false ≡ true
+        → option_map_or (λ found. is_single is_count found.1) o false ≡ true
     by None e = absurd (false≢true e)
     by (Some found) e = at found.1.ty e
 
@@ -148,8 +178,11 @@ pub record AreNamed (es : List Element) : Type 0 where
 
 pub closes-named : (es : List Element) → closes es ≡ true → AreNamed es
 closes-named es e =
-    let a = and_parts (list_all (is_single is_any) es) (has_named es (codes "nFrames") is_count && (has_named es (codes "nBytes") is_size && has_named es (codes "seekTOC") is_size)) e in
-    let b = and_parts (has_named es (codes "nFrames") is_count) (has_named es (codes "nBytes") is_size && has_named es (codes "seekTOC") is_size) a.1 in
+    let a = and_parts (list_all (is_single is_any) es)
+    (has_named es (codes "nFrames") is_count
+    && (has_named es (codes "nBytes") is_size && has_named es (codes "seekTOC") is_size)) e in
+    let b = and_parts (has_named es (codes "nFrames") is_count)
+    (has_named es (codes "nBytes") is_size && has_named es (codes "seekTOC") is_size) a.1 in
     let c = and_parts (has_named es (codes "nBytes") is_size) (has_named es (codes "seekTOC") is_size) b.1 in
     record { frames = b.0; bytes = size-count es (codes "nBytes") c.0; seek = size-count es (codes "seekTOC") c.1 }
 
@@ -167,8 +200,10 @@ pub record HasLayout (h : Here) : Type 0 where
 
 pub layout-here : (h : Here) → ReadsHere h → HasLayout h
 layout-here h reads =
-    option_and_then_some (reading_by h.order (structure h).body) (layout_in (held h) (class h)) reads.0 reads.1 (λ fs is by.
-    option_and_then_some (λ (e : Entry). layout_of e.elements) (entry_of (held h) (class h)) fs is (λ entry there layout.
+    option_and_then_some (reading_by h.order (structure h).body) (layout_in (held h) (class h)) reads.0
+    reads.1 (λ fs is by.
+    option_and_then_some (λ (e : Entry). layout_of e.elements) (entry_of (held h) (class h)) fs is
+    (λ entry there layout.
     record {
       entry = entry;
       held_is = there;
@@ -176,17 +211,31 @@ layout-here h reads =
       layout = layout;
       layout_is = is;
       elements_are = ap (λ o. option_map_or (λ (e : Entry). e.elements) o []) there;
-      body = (reads.0.values, reads.0.tail, reading-found h.order (structure h).body fs reads.0 (layout-sound (held h) (class h) fs is) by);
+      body = (
+        reads.0.values,
+        reads.0.tail,
+        reading-found h.order (structure h).body fs reads.0 (layout-sound (held h) (class h) fs is) by,
+      );
     }))
 
 -- the number at the field of a name is the number of that name
-pub number-here : (h : Here) (name : List ℕ) (fs : List Field) (i n : ℕ) (e : Element) → ReadsHere h → layout_in (held h) (class h) ≡ Some fs → first_named 0 (elements h) name ≡ Some (i, e) → HasNumberAt h.order fs (structure h).body i n → (field_named (elements h) name ≡ i) × (number h name ≡ n)
+pub number-here : (h : Here) (name : List ℕ) (fs : List Field) (i n : ℕ) (e : Element) → ReadsHere h
+    → layout_in (held h) (class h) ≡ Some fs → first_named 0 (elements h) name ≡ Some (i, e)
+    → HasNumberAt h.order fs (structure h).body i n → (field_named (elements h) name ≡ i) × (number h name ≡ n)
 number-here h name fs i n e reads is found told =
-    let field : field_named (elements h) name ≡ i = ap (λ o. option_map_or (λ (found : ℕ × Element). found.0) o 0) found in
-    let read : reading_by h.order (structure h).body fs ≡ Some reads.0 = sym (ap (option_and_then (reading_by h.order (structure h).body)) is) ∙ reads.1 in
-    let values : values_of h.order (held h) (structure h) ≡ reads.0.values = ap (λ o. option_map_or (λ (r : Reading). r.values) o []) reads.1 in
-    let value_is : slice_get reads.0.values i ≡ Some (value.Num n) = told reads.0.values reads.0.tail (reading-found h.order (structure h).body fs reads.0 (layout-sound (held h) (class h) fs is) read) in
-    (field, (λ j. option_map_or number_of (slice_get (values j) (field j)) 0) ∙ ap (λ o. option_map_or number_of o 0) value_is)
+    let field : field_named (elements h) name ≡ i =
+    ap (λ o. option_map_or (λ (found : ℕ × Element). found.0) o 0) found in
+    let read : reading_by h.order (structure h).body fs ≡ Some reads.0 =
+    sym (ap (option_and_then (reading_by h.order (structure h).body)) is) ∙ reads.1 in
+    let values : values_of h.order (held h) (structure h) ≡ reads.0.values =
+    ap (λ o. option_map_or (λ (r : Reading). r.values) o []) reads.1 in
+    let value_is : slice_get reads.0.values i ≡ Some (value.Num n) =
+    told reads.0.values reads.0.tail
+    (reading-found h.order (structure h).body fs reads.0 (layout-sound (held h) (class h) fs is) read) in (
+      field,
+      (λ j. option_map_or number_of (slice_get (values j) (field j)) 0)
+          ∙ ap (λ o. option_map_or number_of o 0) value_is,
+    )
 
 -- the field of a name that is found is a number of the body
 pub record IsToldHere (h : Here) (fs : List Field) (i : ℕ) : Type 0 where
@@ -195,13 +244,17 @@ pub record IsToldHere (h : Here) (fs : List Field) (i : ℕ) : Type 0 where
   pub small : i < 4096
   pub body : HasBody h.order fs (structure h).body
 
-pub number-told : (h : Here) (name : List ℕ) (fs : List Field) (i : ℕ) (e : Element) → IsDictionary (held h) → ReadsHere h → layout_in (held h) (class h) ≡ Some fs → has_named (elements h) name is_count ≡ true → first_named 0 (elements h) name ≡ Some (i, e) → IsToldHere h fs i
+pub number-told : (h : Here) (name : List ℕ) (fs : List Field) (i : ℕ) (e : Element) → IsDictionary (held h)
+    → ReadsHere h → layout_in (held h) (class h) ≡ Some fs → has_named (elements h) name is_count ≡ true
+    → first_named 0 (elements h) name ≡ Some (i, e) → IsToldHere h fs i
 number-told h name fs i e sound reads is passes found =
     let l = layout-here h reads in
     let same : l.fs ≡ fs = same_Some l.fs fs (sym l.layout_is ∙ is) in
     let layout : layout_of (elements h) ≡ Some fs = ap layout_of l.elements_are ∙ l.layout ∙ ap Some same in
     let n = numbered (elements h) fs name i e layout passes found in
-    let few : length (elements h) ≤ 4096 = subst (λ (es : List Element). length es ≤ 4096) (sym l.elements_are) (sound.entries (class h) l.entry l.held_is).short in
+    let few : length (elements h) ≤ 4096 =
+    subst (λ (es : List Element). length es ≤ 4096) (sym l.elements_are)
+    (sound.entries (class h) l.entry l.held_is).short in
     record {
       field = n.field;
       within = n.within;
@@ -211,12 +264,16 @@ number-told h name fs i e sound reads is passes found =
 
 -- ---- what the code finds of it
 
-pub plan-here : (r : Reached) (p : Placed) (plan : List Field) → IsSound r → IsHere r p → Some plan ≡ plan_of r.plans p.class → layout_in r.dictionary (class (here_of r)) ≡ Some plan
+pub plan-here : (r : Reached) (p : Placed) (plan : List Field) → IsSound r → IsHere r p
+    → Some plan ≡ plan_of r.plans p.class → layout_in r.dictionary (class (here_of r)) ≡ Some plan
 plan-here r p plan sound here found =
     ap (layout_in r.dictionary) (class-here r p here) ∙ sym (sound.plans p.class) ∙ sym found
 
-pub named-here : (r : Reached) (p : Placed) (es : List Element) (name : List ℕ) (i : ℕ) (e : Element) → IsHere r p → es ≡ option_map_or (λ e. e.elements) (entry_of r.dictionary p.class) [] → Some (i, e) ≡ first_named 0 es name → first_named 0 (elements (here_of r)) name ≡ Some (i, e)
+pub named-here : (r : Reached) (p : Placed) (es : List Element) (name : List ℕ) (i : ℕ) (e : Element) → IsHere r p
+    → es ≡ option_map_or (λ e. e.elements) (entry_of r.dictionary p.class) [] → Some (i, e) ≡ first_named 0 es name
+    → first_named 0 (elements (here_of r)) name ≡ Some (i, e)
 named-here r p es name i e here is found =
-    ap (λ k. first_named 0 (option_map_or (λ (e : Entry). e.elements) (entry_of r.dictionary k) []) name) (class-here r p here)
+    ap (λ k. first_named 0 (option_map_or (λ (e : Entry). e.elements) (entry_of r.dictionary k) []) name)
+    (class-here r p here)
     ∙ ap (λ es. first_named 0 es name) (sym is)
     ∙ sym found

@@ -1,5 +1,6 @@
 -- A file is well-formed or has a first fault, and one of these alone.
-use Rattle.std.proofs.Common.{◌≡◌, ℕ, ◌≤◌, ◌⊎◌, inl, inr, Bool, true, false, eqb, List, length, take, None, Result, Ok, Err, refl, sym, subst, ◌∙◌, arith}
+use Rattle.std.proofs.Common.{◌≡◌, ℕ, ◌≤◌, ◌⊎◌, inl, inr, Bool, true, false, eqb, List, length, take, None, Result, Ok}
+use Rattle.std.proofs.Common.{Err, refl, sym, subst, ◌∙◌, arith}
 use Rattle.std.proofs.lemmas.Bool.{cases_lt, eq-eqb}
 use Rattle.std.proofs.lemmas.Option.{same_Some}
 use Rattle.scalar_types.specs.declared.Order.{Order}
@@ -13,7 +14,8 @@ use Rattle.item_reader.specs.Fault.{Here, fault_at, fault_by, fault_here, IsItem
 use Rattle.item_reader.specs.Laws.{WellFormed, EachFileIsJudged, NoFileIsBoth, FaultsAreUnique}
 use Rattle.item_reader.specs.Laws.{ItemsBeforeFaultsAreUnique, NoItemStandsAtAFault}
 use Rattle.item_reader.proofs.Headers.{same_order, begins-unfaulted, same_header_fault}
-use Rattle.item_reader.proofs.Chains.{here_of, IsClosed, IsFaulted, IsEnd, none_or_some, no_item, same_chain, chain_from}
+use Rattle.item_reader.proofs.Chains.{here_of, IsClosed, IsFaulted, IsEnd, none_or_some, no_item, same_chain}
+use Rattle.item_reader.proofs.Chains.{chain_from}
 
 -- two beginnings of a file that go to an end are one
 same_beginning : (file : List ℕ) (order other : Order) (items others : List Item) (last end : Before)
@@ -24,7 +26,8 @@ same_beginning file order other items others last end left right one two =
     let P : Order → Type 0 = λ o. Begins file o others end in
     let Q : Order → Type 0 = λ o. IsEnd o file end in
     let moved : Begins file order others end = subst P (sym orders) right in
-    let chains = same_chain order file nothing_yet items others last end left.stand moved.stand one (subst Q (sym orders) two) in
+    let chains = same_chain order file nothing_yet items others last end left.stand moved.stand one
+    (subst Q (sym orders) two) in
     (orders, chains.0, chains.1)
 
 -- the ends of well-formed files and of faults
@@ -71,7 +74,8 @@ faults_unique file fault other (inl left) (inr right) =
 faults_unique file fault other (inr left) (inl right) =
     absurd (begins-unfaulted file left.order left.items left.last other left.begins right)
 faults_unique file fault other (inr left) (inr right) =
-    let same = same_beginning file left.order right.order left.items right.items left.last right.last left.begins right.begins
+    let same = same_beginning file left.order right.order left.items right.items left.last right.last
+    left.begins right.begins
     (faulted_end file fault left) (faulted_end file other right) in
     let P : Order → Type 0 = λ o. IsFaulted o file left.last fault in
     let Q : Before → Type 0 = λ b. IsFaulted right.order file b fault in
@@ -95,7 +99,8 @@ judged_header : (file : List ℕ) (header : Result Order HeadFault) → 40 ≤ l
     → WellFormed file ⊎ ((fault : Fault) × IsFirstFault file fault)
 judged_header file (Ok order) size read =
     let chain = chain_from (length file) order file nothing_yet size (omega arith) in
-    judged_begun file order chain.items chain.last (record { size = size; header = read; stand = chain.stand }) chain.end
+    judged_begun file order chain.items chain.last
+    (record { size = size; header = read; stand = chain.stand }) chain.end
 judged_header file (Err fault) size read =
     inr (fault_at BadHeader (fault.at, 0), inl (inr (fault.at, read, λ short. omega (arith, size, short), refl)))
 

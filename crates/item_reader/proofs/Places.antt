@@ -1,5 +1,6 @@
 -- Elements of a list that pass a test.
-use Rattle.std.proofs.Common.{◌≡◌, suc, Bool, true, false, ◌||◌, cond, List, [], ◌∷◌, Some, is_some, refl, sym, ◌∙◌, arith}
+use Rattle.std.proofs.Common.{◌≡◌, suc, Bool, true, false, ◌||◌, cond, List, [], ◌∷◌, Some, is_some, refl, sym, ◌∙◌}
+use Rattle.std.proofs.Common.{arith}
 use Rattle.std.specs.List.{All, Any, find, list_any}
 use Rattle.std.proofs.lemmas.List.Folds.{Any-from_list_any, list_any-from_Any}
 
@@ -8,17 +9,20 @@ pub is_some-find : {X : Type 0} (p : X → Bool) (xs : List X) → is_some (find
 is_some-find p [] = refl
 is_some-find {X} p (x ∷ xs) = by (p x) (is_some-find p xs)
   where
-    by : (b : Bool) → is_some (find p xs) ≡ list_any p xs → is_some {T = X} (cond b (Some x) (find p xs)) ≡ (b || list_any p xs)
+    by : (b : Bool) → is_some (find p xs) ≡ list_any p xs
+        → is_some {T = X} (cond b (Some x) (find p xs)) ≡ (b || list_any p xs)
     by true others = refl
     by false others = others
 
 -- some element has what the test tells
-pub found-Any : {X : Type 0} (p : X → Bool) (P : X → Type 0) (xs : List X) → ((x : X) → p x ≡ true → P x) → is_some (find p xs) ≡ true → Any P xs
+pub found-Any : {X : Type 0} (p : X → Bool) (P : X → Type 0) (xs : List X) → ((x : X) → p x ≡ true → P x)
+    → is_some (find p xs) ≡ true → Any P xs
 found-Any p P xs tells e =
     let some = Any-from_list_any p xs (sym (is_some-find p xs) ∙ e) in
     (some.0, some.1, some.2, some.3, tells some.1 some.4)
 
-pub Any-found : {X : Type 0} (p : X → Bool) (P : X → Type 0) (xs : List X) → ((x : X) → P x → p x ≡ true) → Any P xs → is_some (find p xs) ≡ true
+pub Any-found : {X : Type 0} (p : X → Bool) (P : X → Type 0) (xs : List X) → ((x : X) → P x → p x ≡ true) → Any P xs
+    → is_some (find p xs) ≡ true
 Any-found p P xs tells (k, x, within, is, holds) =
     is_some-find p xs ∙ list_any-from_Any p xs (k, x, within, is, tells x holds)
 

@@ -9,11 +9,13 @@ use Rattle.item_reader.specs.Steps.{IsPlaced}
 use Rattle.item_reader.proofs.Lengths.{Fits}
 
 -- the 14 bytes at a place say what all the bytes from there say
-pub common_at-head : (order : Order) (file : List ℕ) (at end : ℕ) → end ≡ at + 14 → common_of order (take (end - at) (drop at file)) ≡ common_at order file at
+pub common_at-head : (order : Order) (file : List ℕ) (at end : ℕ) → end ≡ at + 14
+    → common_of order (take (end - at) (drop at file)) ≡ common_at order file at
 common_at-head order file at end is = common_of-take order (end - at) (drop at file) (omega arith)
 
 -- a structure that is told stands there whole
-pub placed-fits : (order : Order) (file : List ℕ) (at : ℕ) (p : Placed) → IsPlaced order file at p → Fits (left_at file at) (common_at order file at).length
+pub placed-fits : (order : Order) (file : List ℕ) (at : ℕ) (p : Placed) → IsPlaced order file at p
+    → Fits (left_at file at) (common_at order file at).length
 placed-fits order file at p placed =
     record {
       head = omega (arith, placed.head, placed.within);

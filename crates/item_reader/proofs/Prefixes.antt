@@ -1,5 +1,7 @@
--- A well-formed file has one list of items, and no proper prefix of it is well-formed: what stands whole in a prefix stands in the file, so where both are closed they have the same items.
-use Rattle.std.proofs.Common.{◌≡◌, ℕ, ◌+◌, ◌-◌, ◌≤◌, true, false, List, [], ◌∷◌, length, take, drop, sum_by, refl, sym, ap, subst, ◌∙◌, arith, length-take}
+-- A well-formed file has one list of items, and no proper prefix of it is well-formed: what stands whole in a prefix
+-- stands in the file, so where both are closed they have the same items.
+use Rattle.std.proofs.Common.{◌≡◌, ℕ, ◌+◌, ◌-◌, ◌≤◌, true, false, List, [], ◌∷◌, length, take, drop, sum_by, refl, sym}
+use Rattle.std.proofs.Common.{ap, subst, ◌∙◌, arith, length-take}
 use Rattle.std.proofs.lemmas.List.{drop-take, take-take, take_all}
 use Rattle.scalar_types.specs.declared.Order.{Order}
 use Rattle.frame_head.specs.declared.structure.Common.{Common}
@@ -42,7 +44,8 @@ body-take n at told file head whole =
     ∙ take-take (told - 14) (n - at - 14) (drop 14 (drop at file)) (omega (arith, head, whole))
 
 -- a structure that ends within the prefix is the same in the file
-structure_at-take : (order : Order) (n at : ℕ) (file : List ℕ) → at + 14 ≤ n → at + (common_at order (take n file) at).length ≤ n
+structure_at-take : (order : Order) (n at : ℕ) (file : List ℕ) → at + 14 ≤ n
+    → at + (common_at order (take n file) at).length ≤ n
     → structure_at order (take n file) at ≡ structure_at order file at
 structure_at-take order n at file head whole =
     let told : ℕ = (common_at order (take n file) at).length in
@@ -61,7 +64,8 @@ structure_at-take order n at file head whole =
     }) says
 
 -- what stands whole in the prefix does in the file
-stands-longer : (order : Order) (n : ℕ) (file : List ℕ) (s : Structure) → StandsWhole order (take n file) s → StandsWhole order file s
+stands-longer : (order : Order) (n : ℕ) (file : List ℕ) (s : Structure) → StandsWhole order (take n file) s
+    → StandsWhole order file s
 stands-longer order n file s stands =
     let size = length-take n file in
     let head : s.at + 14 ≤ n = omega (arith, stands.head, size) in
@@ -77,7 +81,8 @@ stands-longer order n file s stands =
     }
 
 -- so do FrSEs, alone and in a run
-element-longer : (order : Order) (n : ℕ) (file : List ℕ) (s : Structure) (e : Element) → IsElement order (take n file) s e
+element-longer : (order : Order) (n : ℕ) (file : List ℕ) (s : Structure) (e : Element)
+    → IsElement order (take n file) s e
     → IsElement order file s e
 element-longer order n file s e is = record {
   stands = stands-longer order n file s is.stands;
@@ -103,44 +108,57 @@ no_element_behind order n file b [] last unclosed stand closed s e here is =
     absurd cc
 no_element_behind order n file b (EntryItem head run entry ∷ items) last unclosed stand closed s e here is =
     let may = stand.0.1 in
-    let same : s ≡ head = same_structure order file s head is.stands (stands-longer order n file head may.described.stands) (here ∙ sym may.here) in
+    let same : s ≡ head = same_structure order file s head is.stands
+    (stands-longer order n file head may.described.stands) (here ∙ sym may.here) in
     let class : s.class ≡ head.class = ap (λ (t : Structure). t.class) same in
     let is_element : s.class ≡ 2 = is.class in
     let is_entry : head.class ≡ 1 = may.described.class in
     omega (arith, class, is_element, is_entry)
 no_element_behind order n file b (OtherItem t ∷ items) last unclosed stand closed s e here is =
     let may = stand.0.1 in
-    let same : t ≡ s = same_structure order file t s (stands-longer order n file t may.stands) is.stands (may.here ∙ sym here) in
+    let same : t ≡ s = same_structure order file t s (stands-longer order n file t may.stands) is.stands
+    (may.here ∙ sym here) in
     (other_class order (take n file) b t may).1 (ap (λ (u : Structure). u.class) same ∙ is.class)
 
 -- the first items of a prefix that is closed and of the file are one
-same_first : (order : Order) (n : ℕ) (file : List ℕ) (b : Before) (item other : Item) (items : List Item) (last : Before)
+same_first : (order : Order) (n : ℕ) (file : List ℕ) (b : Before) (item other : Item) (items : List Item)
+    (last : Before)
     → MayStand order (take n file) b item → MayStand order file b other
     → Stand order (take n file) (after order b item) items last → last.closed ≡ true → item ≡ other
-same_first order n file b (EntryItem head run entry) (EntryItem front others described) items last left right stand closed =
+same_first order n file b (EntryItem head run entry) (EntryItem front others described) items last left
+    right stand closed =
     let one = left.1.described in
     let two = right.1.described in
-    let same : head ≡ front = same_structure order file head front (stands-longer order n file head one.stands) two.stands (left.1.here ∙ sym right.1.here) in
+    let same : head ≡ front =
+    same_structure order file head front (stands-longer order n file head one.stands) two.stands (left.1.here
+    ∙ sym right.1.here) in
     let P : Structure → Type 0 = λ s. AreElements order file (end_of s) others described.elements in
     let Q : Structure → Type 0 = λ s. NoElement order file (end_of s + sum_by size_of others) in
-    let R : Structure → Type 0 = λ s. IsBody order structure_fields (value.Text described.name ∷ value.Num described.class ∷ value.Text described.comment ∷ []) two.tail s.body in
+    let R : Structure → Type 0 =
+    λ s. IsBody order structure_fields
+    (value.Text described.name ∷ value.Num described.class ∷ value.Text described.comment ∷ []) two.tail s.body in
     let runs = same_run order file (end_of head) run others entry.elements described.elements
     (elements-longer order n file (end_of head) run entry.elements one.elements)
     (subst P (sym same) two.elements)
     (no_element_behind order n file (after order b (EntryItem head run entry)) items last left.0 stand closed)
     (subst Q (sym same) two.longest) in
-    let entries : entry ≡ described = same_entry order head.body entry described one.tail two.tail one.body (subst R (sym same) two.body) runs.1 in
+    let entries : entry ≡ described =
+    same_entry order head.body entry described one.tail two.tail one.body (subst R (sym same) two.body) runs.1 in
     ap (λ (s : Structure). EntryItem s run entry) same
     ∙ ap (λ (ss : List Structure). EntryItem front ss entry) runs.0
     ∙ ap (EntryItem front others) entries
 same_first order n file b (EntryItem head run entry) (OtherItem s) items last left right stand closed =
-    let same : s ≡ head = same_structure order file s head right.1.stands (stands-longer order n file head left.1.described.stands) (right.1.here ∙ sym left.1.here) in
+    let same : s ≡ head = same_structure order file s head right.1.stands
+    (stands-longer order n file head left.1.described.stands) (right.1.here ∙ sym left.1.here) in
     absurd ((other_class order file b s right.1).0 (ap (λ (t : Structure). t.class) same ∙ left.1.described.class))
 same_first order n file b (OtherItem s) (EntryItem head run entry) items last left right stand closed =
-    let same : s ≡ head = same_structure order file s head (stands-longer order n file s left.1.stands) right.1.described.stands (left.1.here ∙ sym right.1.here) in
-    absurd ((other_class order (take n file) b s left.1).0 (ap (λ (t : Structure). t.class) same ∙ right.1.described.class))
+    let same : s ≡ head = same_structure order file s head (stands-longer order n file s left.1.stands)
+    right.1.described.stands (left.1.here ∙ sym right.1.here) in
+    absurd ((other_class order (take n file) b s left.1).0 (ap (λ (t : Structure). t.class) same
+    ∙ right.1.described.class))
 same_first order n file b (OtherItem s) (OtherItem t) items last left right stand closed =
-    ap OtherItem (same_structure order file s t (stands-longer order n file s left.1.stands) right.1.stands (left.1.here ∙ sym right.1.here))
+    ap OtherItem (same_structure order file s t (stands-longer order n file s left.1.stands) right.1.stands (left.1.here
+    ∙ sym right.1.here))
 
 -- nothing may stand where the file is closed
 open_item : (order : Order) (file : List ℕ) (b : Before) (item : Item) → MayStand order file b item → b.closed ≡ false
@@ -164,7 +182,8 @@ same_closed order n file b (item ∷ items) (other ∷ others) last end left rig
     let same : item ≡ other = same_first order n file b item other items last left.0 right.0 left.1 closed in
     let P : Item → Type 0 = λ i. Stand order file (after order b i) others end in
     let rest : (items ≡ others) × (last ≡ end) =
-    same_closed order n file (after order b item) items others last end left.1 (subst P (sym same) right.1) closed shut in
+    same_closed order n file (after order b item) items others last end left.1
+    (subst P (sym same) right.1) closed shut in
     (cc, rest.1)
 
 -- the byte order and the items of a prefix that is well-formed are those of the file
@@ -174,7 +193,8 @@ same_items : (n : ℕ) (file : List ℕ) (order other : Order) (items others : L
 same_items n file order other items others last end short whole =
     let size : 40 ≤ length (take n file) = short.begins.size in
     let enough : 40 ≤ n = omega (arith, size, length-take n file) in
-    let headers : header_of (take 40 (take n file)) ≡ header_of (take 40 file) = ap header_of (take-take 40 n file enough) in
+    let headers : header_of (take 40 (take n file)) ≡ header_of (take 40 file) =
+    ap header_of (take-take 40 n file enough) in
     let orders : order ≡ other =
     same_order (header_of (take 40 file)) order other (sym headers ∙ short.begins.header) whole.begins.header in
     let P : Order → Type 0 = λ o. Stand o (take n file) nothing_yet items last in

@@ -12,7 +12,8 @@ use Rattle.item_reader.specs.declared.kind.Kind.{Kind}
 use Rattle.item_reader.specs.declared.kind.Kind.TheVariants.{FrSH, FrSE, FrameH, FrEndOfFrame, FrEndOfFile, Other}
 use Rattle.item_reader.specs.Record.{Reading, layout_in, reading_by, reading_of}
 use Rattle.item_reader.specs.Described.{entry_from}
-use Rattle.item_reader.specs.Fault.{Here, held, class, kind, structure, fields, fields_by, body_fault, err_of, refusal, refusal_by}
+use Rattle.item_reader.specs.Fault.{Here, held, class, kind, structure, fields, fields_by, body_fault, err_of, refusal}
+use Rattle.item_reader.specs.Fault.{refusal_by}
 use Rattle.item_reader.proofs.Applying.{applies}
 use Rattle.item_reader.proofs.Bodies.{reading-unless_fault, unread-fault}
 
@@ -26,7 +27,8 @@ fields-FrSE h is = ap (λ k. fields_by k (layout_in (held h) (class h))) is
 pub fields-layout : (h : Here) → applies UnreadLayout (kind h) ≡ true → fields h ≡ layout_in (held h) (class h)
 fields-layout h applied = by (kind h) applied
   where
-    by : (k : Kind) → applies UnreadLayout k ≡ true → fields_by k (layout_in (held h) (class h)) ≡ layout_in (held h) (class h)
+    by : (k : Kind) → applies UnreadLayout k ≡ true
+        → fields_by k (layout_in (held h) (class h)) ≡ layout_in (held h) (class h)
     by FrameH e = refl
     by FrEndOfFrame e = refl
     by FrEndOfFile e = refl
@@ -34,25 +36,32 @@ fields-layout h applied = by (kind h) applied
     by k e = absurd (true≢false (sym e))
 
 -- the body's fault by its layout
-pub body_fault-of : (h : Here) (fs : List Field) → fields h ≡ Some fs → body_fault h ≡ fault_of h.order fs (structure h).body
+pub body_fault-of : (h : Here) (fs : List Field) → fields h ≡ Some fs
+    → body_fault h ≡ fault_of h.order fs (structure h).body
 body_fault-of h fs is =
     ap (λ o. option_and_then (λ fields. fault_of h.order fields (structure h).body) o) is
 
 -- the refusal of the entry that begins here
-pub refusal-of : (h : Here) (entry : Entry) → kind h ≡ FrSH → entry_from h.order h.file (structure h) ≡ Some entry → refusal h ≡ err_of (step (held h) entry)
+pub refusal-of : (h : Here) (entry : Entry) → kind h ≡ FrSH → entry_from h.order h.file (structure h) ≡ Some entry
+    → refusal h ≡ err_of (step (held h) entry)
 refusal-of h entry is found =
     ap (λ k. refusal_by k h) is ∙ ap (λ o. option_and_then (λ (entry : Entry). err_of (step (held h) entry)) o) found
 
 -- a body without fault reads
-pub reading-here : (h : Here) (fs : List Field) → layout_in (held h) (class h) ≡ Some fs → fault_of h.order fs (structure h).body ≡ None → (r : Reading) × (reading_of h.order (held h) (structure h) ≡ Some r)
+pub reading-here : (h : Here) (fs : List Field) → layout_in (held h) (class h) ≡ Some fs
+    → fault_of h.order fs (structure h).body ≡ None → (r : Reading)
+    × (reading_of h.order (held h) (structure h) ≡ Some r)
 reading-here h fs layout good =
     let read = reading-unless_fault h.order (structure h).body fs good in
     (read.0, ap (λ o. option_and_then (reading_by h.order (structure h).body) o) layout ∙ read.1)
 
 -- one without layout or with a fault does not
-pub unread-no_layout : (h : Here) → layout_in (held h) (class h) ≡ None → reading_of h.order (held h) (structure h) ≡ None
+pub unread-no_layout : (h : Here) → layout_in (held h) (class h) ≡ None
+    → reading_of h.order (held h) (structure h) ≡ None
 unread-no_layout h layout = ap (λ o. option_and_then (reading_by h.order (structure h).body) o) layout
 
-pub unread-here : (h : Here) (fs : List Field) (f : BodyFault) → layout_in (held h) (class h) ≡ Some fs → fault_of h.order fs (structure h).body ≡ Some f → reading_of h.order (held h) (structure h) ≡ None
+pub unread-here : (h : Here) (fs : List Field) (f : BodyFault) → layout_in (held h) (class h) ≡ Some fs
+    → fault_of h.order fs (structure h).body ≡ Some f → reading_of h.order (held h) (structure h) ≡ None
 unread-here h fs f layout fault =
-    ap (λ o. option_and_then (reading_by h.order (structure h).body) o) layout ∙ unread-fault h.order (structure h).body fs f fault
+    ap (λ o. option_and_then (reading_by h.order (structure h).body) o) layout
+    ∙ unread-fault h.order (structure h).body fs f fault

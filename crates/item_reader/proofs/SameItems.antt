@@ -1,4 +1,5 @@
--- What stands at one place is one: a structure, an FrSE's element, the run of FrSEs that no further one follows, and an entry.
+-- What stands at one place is one: a structure, an FrSE's element, the run of FrSEs that no further one follows, and an
+-- entry.
 use Rattle.std.proofs.Common.{◌≡◌, ℕ, ◌+◌, List, [], ◌∷◌, sum_by, refl, sym, ap, subst, ◌∙◌, arith, rules}
 use Rattle.std.proofs.lemmas.List.Sums.{sum_by-cons}
 use Rattle.std.proofs.lemmas.Option.{same_Some}
@@ -18,7 +19,8 @@ use Rattle.item_reader.specs.Item.{Before}
 use Rattle.item_reader.specs.MayStand.{KindMayStand, StructureMayStand}
 
 -- two structures that stand whole at one place are one
-pub same_structure : (order : Order) (file : List ℕ) (s t : Structure) → StandsWhole order file s → StandsWhole order file t
+pub same_structure : (order : Order) (file : List ℕ) (s t : Structure) → StandsWhole order file s
+    → StandsWhole order file t
     → s.at ≡ t.at → s ≡ t
 same_structure order file s t left right places = left.is ∙ ap (structure_at order file) places ∙ sym right.is
 
@@ -30,16 +32,19 @@ pub structure_fields-sound : AreSound 0 structure_fields
 structure_fields-sound = search rules
 
 -- an FrSE is one element
-pub same_element : (order : Order) (file : List ℕ) (s : Structure) (e d : Element) → IsElement order file s e → IsElement order file s d
+pub same_element : (order : Order) (file : List ℕ) (s : Structure) (e d : Element) → IsElement order file s e
+    → IsElement order file s d
     → e ≡ d
 same_element order file s e d left right =
     let values = (bodies-unique order element_fields s.body element_fields-sound
     (value.Text e.name ∷ value.Text e.text ∷ value.Text e.comment ∷ [])
     (value.Text d.name ∷ value.Text d.text ∷ value.Text d.comment ∷ []) left.tail right.tail left.body right.body).0 in
-    let read : Element → Element = λ x. record { name = x.name; ty = type_of x.text; text = x.text; comment = x.comment } in
+    let read : Element → Element =
+    λ x. record { name = x.name; ty = type_of x.text; text = x.text; comment = x.comment } in
     let same : read e ≡ read d = same_Some (read e) (read d) (ap element_of values) in
     let one : e ≡ read e = ap (λ ty. record { name = e.name; ty = ty; text = e.text; comment = e.comment }) left.type in
-    let two : d ≡ read d = ap (λ ty. record { name = d.name; ty = ty; text = d.text; comment = d.comment }) right.type in
+    let two : d ≡ read d = ap
+    (λ ty. record { name = d.name; ty = ty; text = d.text; comment = d.comment }) right.type in
     one ∙ same ∙ sym two
 
 -- no FrSE stands at a place
@@ -72,8 +77,10 @@ same_run order file at (s ∷ ss) (t ∷ ts) (e ∷ es) (d ∷ ds) left right on
     let behind : at + sum_by size_of (s ∷ ss) ≡ end_of s + sum_by size_of ss =
     (let sums = sum_by-cons size_of s ss in let here : s.at ≡ at = left.0 in omega (arith, sums, here)) in
     let beyond : at + sum_by size_of (t ∷ ts) ≡ end_of s + sum_by size_of ts =
-    (let sums = sum_by-cons size_of t ts in let here : t.at ≡ at = right.0 in let size : end_of s ≡ end_of t = ap end_of same in omega (arith, sums, here, size)) in
-    let rest = same_run order file (end_of s) ss ts es ds left.2 (subst Q (sym same) right.2) (subst R behind one) (subst R beyond two) in
+    (let sums = sum_by-cons size_of t ts in let here : t.at ≡ at = right.0 in
+    let size : end_of s ≡ end_of t = ap end_of same in omega (arith, sums, here, size)) in
+    let rest = same_run order file (end_of s) ss ts es ds left.2 (subst Q (sym same) right.2) (subst R behind one)
+    (subst R beyond two) in
     (cc, cc)
 
 -- an entry is one
@@ -87,7 +94,12 @@ same_entry order body e d tail end left right elements =
     (value.Text d.name ∷ value.Num d.class ∷ value.Text d.comment ∷ []) tail end left right).0 in
     let moved : Entry = record { class = d.class; name = d.name; comment = d.comment; elements = e.elements } in
     let same : e ≡ moved = same_Some e moved (ap (entry_with e.elements) values) in
-    same ∙ ap (λ (es : List Element). record { class = d.class; name = d.name; comment = d.comment; elements = es }) elements
+    same ∙ ap (λ (es : List Element). record {
+      class = d.class;
+      name = d.name;
+      comment = d.comment;
+      elements = es;
+    }) elements
 
 -- a structure that is an item of its own is neither FrSH nor FrSE
 pub other_class : (order : Order) (file : List ℕ) (b : Before) (s : Structure) → StructureMayStand order file b s

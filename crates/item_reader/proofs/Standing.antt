@@ -14,21 +14,36 @@ use Rattle.item_reader.proofs.Allowed.{kind-stands}
 use Rattle.item_reader.proofs.Cleared.{entry-clear, structure-clear}
 
 -- what stands at a place of which no reason holds is an item that may stand there
-pub may-stand : (h : Here) → h.before.closed ≡ false → place h < length h.file → first_of reasons h ≡ None → (item : Item) × (item_here h ≡ Some item) × MayStand h.order h.file h.before item
+pub may-stand : (h : Here) → h.before.closed ≡ false → place h < length h.file → first_of reasons h ≡ None
+    → (item : Item) × (item_here h ≡ Some item) × MayStand h.order h.file h.before item
 may-stand h unclosed within none =
     let length = length-none h within none in
-    let s = kind-stands h (kind h) unclosed (length-fits h.order h.file (place h) length) refl (sym (first_of-kind h within length) ∙ none) in
+    let s = kind-stands h (kind h) unclosed (length-fits h.order h.file (place h) length) refl
+    (sym (first_of-kind h within length) ∙ none) in
     (s.item, s.here, s.may)
 
 -- of an item that may stand no reason holds, and it is the one that stands there
-pub is-judged : (order : Order) (file : List ℕ) (b : Before) (item : Item) → MayStand order file b item → (b.closed ≡ false) × (b.place < length file) × (first_of reasons (record { order = order; file = file; before = b }) ≡ None) × (item_here (record { order = order; file = file; before = b }) ≡ Some item)
+pub is-judged : (order : Order) (file : List ℕ) (b : Before) (item : Item) → MayStand order file b item
+    → (b.closed ≡ false) × (b.place < length file)
+    × (first_of reasons (record { order = order; file = file; before = b }) ≡ None)
+    × (item_here (record { order = order; file = file; before = b }) ≡ Some item)
 is-judged order file b (EntryItem head run entry) (unclosed, may) =
     let h : Here = record { order = order; file = file; before = b } in
     let same : head ≡ structure h = may.described.stands.is ∙ ap (structure_at order file) may.here in
-    let clear = entry-clear h run entry (subst (λ s. IsEntry order file s run entry) same may.described) may.taken in
-    (unclosed, omega (arith, may.here, may.described.stands.head), clear.none, clear.here ∙ ap (λ s. Some (EntryItem s run entry)) (sym same))
+    let clear = entry-clear h run entry (subst (λ s. IsEntry order file s run entry) same may.described) may.taken in (
+      unclosed,
+      omega (arith, may.here, may.described.stands.head),
+      clear.none,
+      clear.here
+          ∙ ap (λ s. Some (EntryItem s run entry)) (sym same),
+    )
 is-judged order file b (OtherItem s) (unclosed, may) =
     let h : Here = record { order = order; file = file; before = b } in
     let same : s ≡ structure h = may.stands.is ∙ ap (structure_at order file) may.here in
-    let clear = structure-clear h (subst (λ s. StructureMayStand order file b s) same may) in
-    (unclosed, omega (arith, may.here, may.stands.head), clear.none, clear.here ∙ ap (λ s. Some (OtherItem s)) (sym same))
+    let clear = structure-clear h (subst (λ s. StructureMayStand order file b s) same may) in (
+      unclosed,
+      omega (arith, may.here, may.stands.head),
+      clear.none,
+      clear.here
+          ∙ ap (λ s. Some (OtherItem s)) (sym same),
+    )

@@ -17,14 +17,19 @@ use Rattle.item_reader.proofs.Bodies.{reading-found, reading-fields}
 -- the layout of a class that is held is sound
 pub layout-sound : (held : List Entry) (class : ℕ) (fs : List Field) → layout_in held class ≡ Some fs → AreSound 0 fs
 layout-sound held class fs is =
-    option_and_then_some (λ e. layout_of e.elements) (entry_of held class) fs is (λ e found layout. layout_of-sound e.elements fs layout)
+    option_and_then_some (λ e. layout_of e.elements) (entry_of held class) fs is
+    (λ e found layout. layout_of-sound e.elements fs layout)
 
 -- A record's weight is no less than its length.
-pub size-weight : (order : Order) (held : List Entry) (s : Structure) (r : Reading) → reading_of order held s ≡ Some r → size_of s ≤ weight_of order held s
+pub size-weight : (order : Order) (held : List Entry) (s : Structure) (r : Reading) → reading_of order held s ≡ Some r
+    → size_of s ≤ weight_of order held s
 size-weight order held s r read =
     option_and_then_some (reading_by order s.body) (layout_in held s.class) r read (λ fs layout by.
     let spelled = reading-found order s.body fs r (layout-sound held s.class fs layout) by in
     let long = body-length order fs r.values r.tail s.body spelled in
-    let weight : weight_of order held s ≡ 14 + (values_length r.fields r.values + length r.tail) = ap (λ o. option_map_or (λ (r : Reading). 14 + (values_length r.fields r.values + length r.tail)) o (size_of s)) read in
-    let same : values_length r.fields r.values ≡ values_length fs r.values = ap (λ fs. values_length fs r.values) (reading-fields order s.body fs r by) in
+    let weight : weight_of order held s ≡ 14 + (values_length r.fields r.values + length r.tail) =
+    ap (λ o. option_map_or (λ (r : Reading). 14 + (values_length r.fields r.values + length r.tail)) o
+    (size_of s)) read in
+    let same : values_length r.fields r.values ≡ values_length fs r.values =
+    ap (λ fs. values_length fs r.values) (reading-fields order s.body fs r by) in
     omega (arith, long, weight, same))

@@ -1,5 +1,6 @@
 -- The end of a file: the layout that FrEndOfFile has, and what it tells (LIGO-T970130 v8, FrEndOfFile).
-use Rattle.std.specs.Prelude.{ℕ, ◌&&◌, if◌then◌else◌, Bool, true, false, List, codes, slice_get, Option, Some, None, option_and_then}
+use Rattle.std.specs.Prelude.{ℕ, ◌&&◌, if◌then◌else◌, Bool, true, false, List, codes, slice_get, Option, Some, None}
+use Rattle.std.specs.Prelude.{option_and_then}
 use Rattle.std.specs.List.{list_all}
 use Rattle.std.specs.Option.{option_map_or}
 use Rattle.type_text.specs.declared.types.Base.{Base}
@@ -38,10 +39,13 @@ is_size base = false
 abbrev pub has_named : List Element → List ℕ → (Base → Bool) → Bool
 has_named elements name passes = option_map_or (λ found. is_single passes found.1) (first_named 0 elements name) false
 
--- the layout that FrEndOfFile has to have: no dimension, a count of frames, a number of bytes and the way back to the table
+-- the layout that FrEndOfFile has to have: no dimension, a count of frames, a number of bytes and the way back to the
+-- table
 abbrev pub closes : List Element → Bool
 closes elements =
-    list_all (is_single is_any) elements && (has_named elements (codes "nFrames") is_count && (has_named elements (codes "nBytes") is_size && has_named elements (codes "seekTOC") is_size))
+    list_all (is_single is_any) elements
+    && (has_named elements (codes "nFrames") is_count
+    && (has_named elements (codes "nBytes") is_size && has_named elements (codes "seekTOC") is_size))
 
 -- the number of the first element of the name
 abbrev pub field_named : List Element → List ℕ → ℕ

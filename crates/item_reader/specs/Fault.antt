@@ -1,5 +1,8 @@
--- The reasons for which what stands at a place may not stand there, each of them as a test, in the order of their numbers; and the first fault of a file.
-use Rattle.std.specs.Prelude.{◌≡◌, ℕ, ◌+◌, ◌==◌, ◌&&◌, ◌||◌, ◌⊎◌, ◌<◌, not, nat_le, nat_lt, Bool, true, false, if◌then◌else◌, List, [], ◌∷◌, length, take, find, is_none, is_some, Option, Some, None, option_and_then, Result, Ok, Err, codes}
+-- The reasons for which what stands at a place may not stand there, each of them as a test, in the order of their
+-- numbers; and the first fault of a file.
+use Rattle.std.specs.Prelude.{◌≡◌, ℕ, ◌+◌, ◌==◌, ◌&&◌, ◌||◌, ◌⊎◌, ◌<◌, not, nat_le, nat_lt, Bool, true, false}
+use Rattle.std.specs.Prelude.{if◌then◌else◌, List, [], ◌∷◌, length, take, find, is_none, is_some, Option, Some, None}
+use Rattle.std.specs.Prelude.{option_and_then, Result, Ok, Err, codes}
 use Rattle.std.specs.Option.{option_map_or}
 use Rattle.scalar_types.specs.declared.Order.{Order}
 use Rattle.frame_head.specs.Header.{header_of}
@@ -15,12 +18,19 @@ use Rattle.layout_plan.specs.declared.faults.BodyFault.{BodyFault}
 use Rattle.layout_plan.specs.Reading.{fault_of}
 use Rattle.layout_plan.specs.BuiltIn.{structure_fields, element_fields}
 use Rattle.item_reader.specs.declared.reason.Reason.{Reason}
-use Rattle.item_reader.specs.declared.reason.Reason.TheVariants.{CutHeader, BadHeader, CutRecord, LengthSmall, RecordLimit, FrameLimit, NoLayout, UnreadLayout, BodyShort, BodyLong, BadText, StrayElement, ClassRange, Redefined, NameTwice, ElementLimit, InstanceTwice, FrameHTwice, NoFrameH, LooseLink, OpenFrame, BadClosing, AfterTable, NoEnd, FrameCount, ByteCount, Trailing, FileLimit, FramesLimit}
+use Rattle.item_reader.specs.declared.reason.Reason.TheVariants.{CutHeader, BadHeader, CutRecord, LengthSmall}
+use Rattle.item_reader.specs.declared.reason.Reason.TheVariants.{RecordLimit, FrameLimit, NoLayout, UnreadLayout}
+use Rattle.item_reader.specs.declared.reason.Reason.TheVariants.{BodyShort, BodyLong, BadText, StrayElement, ClassRange}
+use Rattle.item_reader.specs.declared.reason.Reason.TheVariants.{Redefined, NameTwice, ElementLimit, InstanceTwice}
+use Rattle.item_reader.specs.declared.reason.Reason.TheVariants.{FrameHTwice, NoFrameH, LooseLink, OpenFrame}
+use Rattle.item_reader.specs.declared.reason.Reason.TheVariants.{BadClosing, AfterTable, NoEnd, FrameCount, ByteCount}
+use Rattle.item_reader.specs.declared.reason.Reason.TheVariants.{Trailing, FileLimit, FramesLimit}
 use Rattle.item_reader.specs.declared.fault.Fault.{Fault}
 use Rattle.item_reader.specs.declared.kind.Kind.{Kind}
 use Rattle.item_reader.specs.declared.kind.Kind.TheVariants.{FrSH, FrSE, FrTOC}
 use Rattle.item_reader.specs.Structure.{Structure, end_of, record_limit, file_limit, common_at, left_at, structure_at}
-use Rattle.item_reader.specs.Kind.{kind_of, is_frame_kind, is_target_kind, is_closing_kind, is_header_kind, is_end_kind, is_table_kind, is_file_end_kind}
+use Rattle.item_reader.specs.Kind.{kind_of, is_frame_kind, is_target_kind, is_closing_kind, is_header_kind, is_end_kind}
+use Rattle.item_reader.specs.Kind.{is_table_kind, is_file_end_kind}
 use Rattle.item_reader.specs.Record.{layout_in, values_of, weight_of, first_loose}
 use Rattle.item_reader.specs.Described.{entry_from}
 use Rattle.item_reader.specs.Item.{Item, Before}
@@ -145,12 +155,17 @@ abbrev pub is_empty : {A : Type 0} → List A → Bool
 is_empty [] = true
 is_empty (x ∷ xs) = false
 
--- Where a reason holds of what stands at a place, and of which field. A reason counts only where none of a lesser number holds.
+-- Where a reason holds of what stands at a place, and of which field. A reason counts only where none of a lesser
+-- number holds.
 abbrev pub judged : Reason → Here → Option Spot
-judged CutRecord h = here h (nat_lt (left h) 14 || (nat_le 14 (told h) && (nat_le (told h) record_limit && nat_lt (left h) (told h))))
+judged CutRecord h = here h
+    (nat_lt (left h) 14 || (nat_le 14 (told h) && (nat_le (told h) record_limit && nat_lt (left h) (told h))))
 judged LengthSmall h = here h (nat_lt (told h) 14)
-judged RecordLimit h = here h (nat_lt record_limit (told h) || (is_frame_kind (kind h) && (nat_le (load h + told h) record_limit && nat_lt record_limit (weight h))))
-judged FrameLimit h = here h (is_frame_kind (kind h) && (nat_lt record_limit (load h + told h) || nat_lt record_limit (load h + weight h)))
+judged RecordLimit h = here h
+    (nat_lt record_limit (told h)
+    || (is_frame_kind (kind h) && (nat_le (load h + told h) record_limit && nat_lt record_limit (weight h))))
+judged FrameLimit h = here h
+    (is_frame_kind (kind h) && (nat_lt record_limit (load h + told h) || nat_lt record_limit (load h + weight h)))
 judged NoLayout h = here h (not (class h == 1 || class h == 2) && is_none (entry_of (held h) (class h)))
 judged UnreadLayout h = here h (not (is_table_kind (kind h)) && is_none (fields h))
 judged BodyShort h = here_body h body.BodyShort
@@ -168,8 +183,11 @@ judged LooseLink h = if is_end_kind (kind h) then first_loose h.order (held h) h
 judged OpenFrame h = here h (is_closing_kind (kind h) && not (is_empty h.before.frame))
 judged BadClosing h = here h (is_file_end_kind (kind h) && not (closes (elements h)))
 judged AfterTable h = here h (h.before.table && (is_frame_kind (kind h) || is_table_kind (kind h)))
-judged FrameCount h = here_at h (field_named (elements h) (codes "nFrames")) (is_file_end_kind (kind h) && not (number h (codes "nFrames") == h.before.frames))
-judged ByteCount h = here_at h (field_named (elements h) (codes "nBytes")) (is_file_end_kind (kind h) && not (number h (codes "nBytes") == 0 || number h (codes "nBytes") == end_of (structure h)))
+judged FrameCount h = here_at h (field_named (elements h) (codes "nFrames"))
+    (is_file_end_kind (kind h) && not (number h (codes "nFrames") == h.before.frames))
+judged ByteCount h = here_at h (field_named (elements h) (codes "nBytes"))
+    (is_file_end_kind (kind h)
+    && not (number h (codes "nBytes") == 0 || number h (codes "nBytes") == end_of (structure h)))
 judged FileLimit h = here h (nat_lt file_limit (place h + told h))
 judged FramesLimit h = here h (is_end_kind (kind h) && nat_le frames_limit h.before.frames)
 judged reason h = None
@@ -181,15 +199,19 @@ fault_at reason spot = record { at = spot.0; field = spot.1; reason = reason }
 -- the first of some reasons that holds
 abbrev pub first_of : List Reason → Here → Option Fault
 first_of [] h = None
-first_of (reason ∷ reasons) h = option_map_or (λ spot. Some (fault_at reason spot)) (judged reason h) (first_of reasons h)
+first_of (reason ∷ reasons) h =
+    option_map_or (λ spot. Some (fault_at reason spot)) (judged reason h) (first_of reasons h)
 
 -- the reasons that are judged of what stands at a place, in the order of their numbers
 
 abbrev pub reasons : List Reason
 reasons =
-    CutRecord ∷ LengthSmall ∷ RecordLimit ∷ FrameLimit ∷ NoLayout ∷ UnreadLayout ∷ BodyShort ∷ BodyLong ∷ BadText ∷ StrayElement ∷ ClassRange ∷ Redefined ∷ NameTwice ∷ ElementLimit ∷ InstanceTwice ∷ FrameHTwice ∷ NoFrameH ∷ LooseLink ∷ OpenFrame ∷ BadClosing ∷ AfterTable ∷ FrameCount ∷ ByteCount ∷ FileLimit ∷ FramesLimit ∷ []
+    CutRecord ∷ LengthSmall ∷ RecordLimit ∷ FrameLimit ∷ NoLayout ∷ UnreadLayout ∷ BodyShort ∷ BodyLong ∷ BadText
+    ∷ StrayElement ∷ ClassRange ∷ Redefined ∷ NameTwice ∷ ElementLimit ∷ InstanceTwice ∷ FrameHTwice ∷ NoFrameH
+    ∷ LooseLink ∷ OpenFrame ∷ BadClosing ∷ AfterTable ∷ FrameCount ∷ ByteCount ∷ FileLimit ∷ FramesLimit ∷ []
 
--- The fault of a place: bytes after the end of the file, no byte where that end is still to come, or the first reason that holds of what stands there.
+-- The fault of a place: bytes after the end of the file, no byte where that end is still to come, or the first reason
+-- that holds of what stands there.
 abbrev pub fault_by : Bool → Bool → Here → Option Fault
 fault_by true true h = None
 fault_by true false h = Some (fault_at Trailing (place h, 0))
@@ -202,7 +224,9 @@ fault_here h = fault_by h.before.closed (place h == length h.file) h
 -- what is wrong with a header
 abbrev pub IsHeaderFault : List ℕ → Fault → Type 0
 IsHeaderFault file fault =
-    ((length file < 40) × (fault ≡ fault_at CutHeader (length file, 0))) ⊎ ((at : ℕ) × (header_of (take 40 file) ≡ Err (record { at = at })) × (length file < 40 → ⊥) × (fault ≡ fault_at BadHeader (at, 0)))
+    ((length file < 40) × (fault ≡ fault_at CutHeader (length file, 0)))
+    ⊎ ((at : ℕ) × (header_of (take 40 file) ≡ Err (record { at = at })) × (length file < 40 → ⊥)
+    × (fault ≡ fault_at BadHeader (at, 0)))
 
 -- The fault at the place after items that each may stand: no further item may, so these are the longest list.
 pub record IsItemFault (file : List ℕ) (fault : Fault) : Type 0 where

@@ -1,12 +1,18 @@
--- What the code judges of a whole structure at the place reached, part by part. Each part is a list of reasons in the order of their numbers.
-use Rattle.std.specs.Prelude.{◌≡◌, ◌≢◌, ◌↔◌, ℕ, ◌+◌, ◌≤◌, ⊤, IsTrue, Bool, ◌||◌, List, [], ◌∷◌, length, Option, Some, None, Result, Ok, Err}
+-- What the code judges of a whole structure at the place reached, part by part. Each part is a list of reasons in the
+-- order of their numbers.
+use Rattle.std.specs.Prelude.{◌≡◌, ◌≢◌, ◌↔◌, ℕ, ◌+◌, ◌≤◌, ⊤, IsTrue, Bool, ◌||◌, List, [], ◌∷◌, length, Option, Some}
+use Rattle.std.specs.Prelude.{None, Result, Ok, Err}
 use Rattle.dictionary.specs.declared.entries.Entry.{Entry}
 use Rattle.dictionary.specs.Dictionary.{step}
 use Rattle.layout_plan.specs.declared.fields.Field.{Field}
 use Rattle.layout_plan.specs.Body.{values_length}
 use Rattle.layout_plan.specs.Plans.{plan_of}
 use Rattle.item_reader.specs.declared.reason.Reason.{Reason}
-use Rattle.item_reader.specs.declared.reason.Reason.TheVariants.{RecordLimit, FrameLimit, NoLayout, UnreadLayout, BodyShort, BodyLong, BadText, ClassRange, Redefined, NameTwice, ElementLimit, InstanceTwice, FrameHTwice, NoFrameH, LooseLink, OpenFrame, BadClosing, AfterTable, FrameCount, ByteCount, FileLimit, FramesLimit}
+use Rattle.item_reader.specs.declared.reason.Reason.TheVariants.{RecordLimit, FrameLimit, NoLayout, UnreadLayout}
+use Rattle.item_reader.specs.declared.reason.Reason.TheVariants.{BodyShort, BodyLong, BadText, ClassRange, Redefined}
+use Rattle.item_reader.specs.declared.reason.Reason.TheVariants.{NameTwice, ElementLimit, InstanceTwice, FrameHTwice}
+use Rattle.item_reader.specs.declared.reason.Reason.TheVariants.{NoFrameH, LooseLink, OpenFrame, BadClosing, AfterTable}
+use Rattle.item_reader.specs.declared.reason.Reason.TheVariants.{FrameCount, ByteCount, FileLimit, FramesLimit}
 use Rattle.item_reader.specs.declared.fault.Fault.{Fault}
 use Rattle.item_reader.specs.declared.kind.Kind.{Kind}
 use Rattle.item_reader.specs.declared.item.Item.{Item as Given}

@@ -23,12 +23,15 @@ NoFileIsBoth = (file : List ℕ) (fault : Fault) → WellFormed file → IsFirst
 
 -- A file has one first fault.
 abbrev pub FaultsAreUnique : Type 0
-FaultsAreUnique = (file : List ℕ) (first second : Fault) → IsFirstFault file first → IsFirstFault file second → first ≡ second
+FaultsAreUnique = (file : List ℕ) (first second : Fault) → IsFirstFault file first → IsFirstFault file second
+    → first ≡ second
 
 -- The items of a well-formed file are the only ones, and what stands before its end is one.
 abbrev pub ItemsAreUnique : Type 0
 ItemsAreUnique =
-    (file : List ℕ) (order other : Order) (items others : List Item) (last end : Before) → IsWellFormed file order items last → IsWellFormed file other others end → (order ≡ other) × (items ≡ others) × (last ≡ end)
+    (file : List ℕ) (order other : Order) (items others : List Item) (last end : Before)
+    → IsWellFormed file order items last → IsWellFormed file other others end → (order ≡ other)
+    × (items ≡ others) × (last ≡ end)
 
 -- No proper prefix of a well-formed file is well-formed.
 abbrev pub NoPrefixIsWellFormed : Type 0
@@ -43,9 +46,12 @@ ItemsBeforeFaultsAreUnique =
 -- Of the reasons that hold of what stands at a place, the one named has the least number.
 abbrev pub NamesTheLeastReason : Type 0
 NamesTheLeastReason =
-    (h : Here) (fault : Fault) (other : Reason) (spot : Spot) → first_of reasons h ≡ Some fault → judged other h ≡ Some spot → number_of fault.reason ≤ number_of other
+    (h : Here) (fault : Fault) (other : Reason) (spot : Spot) → first_of reasons h ≡ Some fault
+    → judged other h ≡ Some spot → number_of fault.reason ≤ number_of other
 
 -- The items before a fault are the longest list of items that each may stand: no further item may.
 abbrev pub NoItemStandsAtAFault : Type 0
 NoItemStandsAtAFault =
-    (order : Order) (file : List ℕ) (items : List Item) (last : Before) (fault : Fault) (item : Item) → Begins file order items last → fault_here (record { order = order; file = file; before = last }) ≡ Some fault → MayStand order file last item → ⊥
+    (order : Order) (file : List ℕ) (items : List Item) (last : Before) (fault : Fault) (item : Item)
+    → Begins file order items last → fault_here (record { order = order; file = file; before = last }) ≡ Some fault
+    → MayStand order file last item → ⊥

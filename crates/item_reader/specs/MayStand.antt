@@ -1,11 +1,13 @@
 -- What may stand after what in a file, and the files that are well-formed.
-use Rattle.std.specs.Prelude.{◌≡◌, ℕ, ◌+◌, ◌<◌, ◌≤◌, ◌⊎◌, false, true, List, [], ◌∷◌, Any, length, take, IsOk, IsTrue, Ok, Some, codes}
+use Rattle.std.specs.Prelude.{◌≡◌, ℕ, ◌+◌, ◌<◌, ◌≤◌, ◌⊎◌, false, true, List, [], ◌∷◌, Any, length, take, IsOk, IsTrue}
+use Rattle.std.specs.Prelude.{Ok, Some, codes}
 use Rattle.scalar_types.specs.declared.Order.{Order}
 use Rattle.frame_head.specs.Header.{header_of}
 use Rattle.dictionary.specs.declared.entries.Entry.{Entry}
 use Rattle.dictionary.specs.Dictionary.{entry_of, step}
 use Rattle.item_reader.specs.declared.kind.Kind.{Kind}
-use Rattle.item_reader.specs.declared.kind.Kind.TheVariants.{FrSH, FrSE, FrameH, FrEndOfFrame, FrTOC, FrEndOfFile, Other}
+use Rattle.item_reader.specs.declared.kind.Kind.TheVariants.{FrSH, FrSE, FrameH, FrEndOfFrame, FrTOC, FrEndOfFile}
+use Rattle.item_reader.specs.declared.kind.Kind.TheVariants.{Other}
 use Rattle.item_reader.specs.Structure.{Structure, end_of, record_limit, StandsWhole}
 use Rattle.item_reader.specs.Kind.{kind_of}
 use Rattle.item_reader.specs.Record.{Reading, reading_of, weight_of, AreLinked}
@@ -18,12 +20,14 @@ abbrev pub frames_limit : ℕ
 frames_limit = 1000000
 
 -- An entry: the longest that stands there, which the dictionary takes.
-pub record EntryMayStand (order : Order) (file : List ℕ) (b : Before) (head : Structure) (run : List Structure) (entry : Entry) : Type 0 where
+pub record EntryMayStand (order : Order) (file : List ℕ) (b : Before) (head : Structure) (run : List Structure)
+    (entry : Entry) : Type 0 where
   pub here : head.at ≡ b.place
   pub described : IsEntry order file head run entry
   pub taken : IsOk (step b.dictionary entry)
 
--- A record of a frame: its class is held and its body spells the layout; its weight, and that of the frame with it, are within the limit; and no contents table stands before it.
+-- A record of a frame: its class is held and its body spells the layout; its weight, and that of the frame with it, are
+-- within the limit; and no contents table stands before it.
 pub record RecordMayStand (order : Order) (b : Before) (s : Structure) : Type 0 where
   pub reading : Reading
   pub reads : reading_of order b.dictionary s ≡ Some reading
@@ -39,7 +43,8 @@ IsNewIn frame s = Any (λ t. (t.class ≡ s.class) × (t.instance ≡ s.instance
 abbrev pub HasHeader : List Entry → List Structure → Type 0
 HasHeader held frame = Any (λ t. kind_of held t.class ≡ FrameH) frame
 
--- The end of a file: it comes after the last frame, has the layout that it has to have, and tells the number of frames; and it tells the place of its own end, or 0.
+-- The end of a file: it comes after the last frame, has the layout that it has to have, and tells the number of frames;
+-- and it tells the place of its own end, or 0.
 pub record FileEndMayStand (order : Order) (b : Before) (s : Structure) : Type 0 where
   pub reading : Reading
   pub reads : reading_of order b.dictionary s ≡ Some reading
@@ -48,13 +53,15 @@ pub record FileEndMayStand (order : Order) (b : Before) (s : Structure) : Type 0
   pub layout : IsTrue (closes entry.elements)
   pub frame : b.frame ≡ []
   pub frames : number_named entry.elements reading.values (codes "nFrames") ≡ b.frames
-  pub bytes : (number_named entry.elements reading.values (codes "nBytes") ≡ 0) ⊎ (number_named entry.elements reading.values (codes "nBytes") ≡ end_of s)
+  pub bytes : (number_named entry.elements reading.values (codes "nBytes") ≡ 0)
+      ⊎ (number_named entry.elements reading.values (codes "nBytes") ≡ end_of s)
 
 -- A structure that is no part of an entry, by its kind.
 abbrev pub KindMayStand : Kind → Order → Before → Structure → Type 0
 KindMayStand Other order b s = RecordMayStand order b s × IsNewIn b.frame s
 KindMayStand FrameH order b s = RecordMayStand order b s × IsNewIn b.frame s × (HasHeader b.dictionary b.frame → ⊥)
-KindMayStand FrEndOfFrame order b s = RecordMayStand order b s × HasHeader b.dictionary b.frame × AreLinked order b.dictionary b.frame b.frame × (b.frames < frames_limit)
+KindMayStand FrEndOfFrame order b s = RecordMayStand order b s × HasHeader b.dictionary b.frame
+    × AreLinked order b.dictionary b.frame b.frame × (b.frames < frames_limit)
 KindMayStand FrTOC order b s = (b.frame ≡ []) × (b.table ≡ false)
 KindMayStand FrEndOfFile order b s = FileEndMayStand order b s
 KindMayStand FrSH order b s = ⊥
@@ -84,7 +91,8 @@ pub record Begins (file : List ℕ) (order : Order) (items : List Item) (last : 
   pub header : header_of (take 40 file) ≡ Ok order
   pub stand : Stand order file nothing_yet items last
 
--- A well-formed file is a header and items that each may stand after those before it, the last of them FrEndOfFile, and nothing after it.
+-- A well-formed file is a header and items that each may stand after those before it, the last of them FrEndOfFile, and
+-- nothing after it.
 pub record IsWellFormed (file : List ℕ) (order : Order) (items : List Item) (last : Before) : Type 0 where
   pub begins : Begins file order items last
   pub closed : last.closed ≡ true

@@ -18,7 +18,16 @@ frame_of r = map (structure_at r.order r.file.items) r.frame.items
 
 -- what stands before the place reached
 abbrev pub before_of : Reached → Before
-before_of r = record { place = r.at; dictionary = r.dictionary; frame = frame_of r; load = r.load; frames = r.frames; records = r.records; table = r.table; closed = r.closed }
+before_of r = record {
+  place = r.at;
+  dictionary = r.dictionary;
+  frame = frame_of r;
+  load = r.load;
+  frames = r.frames;
+  records = r.records;
+  table = r.table;
+  closed = r.closed;
+}
 
 -- what is judged there
 abbrev pub here_of : Reached → Here
@@ -30,7 +39,8 @@ pub record IsKept (r : Reached) (at : ℕ) : Type 0 where
   pub whole : length_reason r.order r.file.items at ≡ None
   pub reads : IsSome (reading_of r.order r.dictionary (structure_at r.order r.file.items at))
 
--- What is kept fits together: the plans are those of the dictionary's entries, and the records of the frame are whole and read.
+-- What is kept fits together: the plans are those of the dictionary's entries, and the records of the frame are whole
+-- and read.
 pub record IsSound (r : Reached) : Type 0 where
   pub within : r.at ≤ length r.file.items
   pub header : 40 ≤ r.at
@@ -42,7 +52,8 @@ pub record IsSound (r : Reached) : Type 0 where
   pub frames : r.frames ≤ frames_limit
   pub records : r.records ≤ r.at
 
--- The item at the place reached was taken: there is no fault, the item is given as it is, and it stands before the place reached now.
+-- The item at the place reached was taken: there is no fault, the item is given as it is, and it stands before the
+-- place reached now.
 pub record Takes (old : Reached) (item : Given) (new : Reached) : Type 0 where
   pub judged : fault_here (here_of old) ≡ None
   pub taken : Item

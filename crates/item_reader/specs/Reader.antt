@@ -1,5 +1,6 @@
 -- What callers know of a reader of items, and what its calls do.
-use Rattle.std.specs.Prelude.{◌≡◌, ℕ, ◌≤◌, ◌⊎◌, ◌+◌, true, is_none, is_some, if◌then◌else◌, List, length, slice_range, Option, Some, None, option_map, ⊤}
+use Rattle.std.specs.Prelude.{◌≡◌, ℕ, ◌≤◌, ◌⊎◌, ◌+◌, true, is_none, is_some, if◌then◌else◌, List, length, slice_range}
+use Rattle.std.specs.Prelude.{Option, Some, None, option_map, ⊤}
 use Rattle.scalar_types.specs.declared.Order.{Order}
 use Rattle.frame_outside.specs.Shelf.{Outside, Told, IsSource, reading_at}
 use Rattle.layout_plan.specs.declared.fields.Field.{Field}
@@ -16,7 +17,9 @@ use Rattle.item_reader.specs.Steps.{item_here}
 use Rattle.item_reader.specs.Reached.{IsSound, here_of, Takes}
 use Rattle.item_reader.specs.Given.{Tells, body_after}
 
--- What callers know of a reader: the slot that it reads, the byte order, what stands before the place that it has reached, the last body, the end of the file once it was given, and the error once there was one. It has taken these bytes of the slot.
+-- What callers know of a reader: the slot that it reads, the byte order, what stands before the place that it has
+-- reached, the last body, the end of the file once it was given, and the error once there was one. It has taken these
+-- bytes of the slot.
 pub record Reader : Type 0 where
   pub slot : ℕ
   pub order : Order
@@ -36,7 +39,8 @@ pub record HasRead (file : List ℕ) (r : Reader) : Type 0 where
   pub begins : Begins file r.order items r.before
   pub taken : r.bytes ≡ file
 
--- The reader reads this slot of this shelf: it is a source slot, and, while there was no error, what the reader has given are the first items of the bytes that the slot was opened on.
+-- The reader reads this slot of this shelf: it is a source slot, and, while there was no error, what the reader has
+-- given are the first items of the bytes that the slot was opened on.
 pub record Reads (outside : Outside) (r : Reader) : Type 0 where
   pub source : IsSource outside.slots r.slot
   pub read : r.error ≡ None → Told (file_of outside r.slot) (λ file. HasRead file r)
@@ -75,7 +79,8 @@ pub record TakesOn (old : Reached) (item : Given) (body : ℕ × ℕ) (new : Rea
   pub body_is : slice_range new.file.items body.0 body.1 ≡ body_after (here_of old) takes.taken
   pub end : new.closed ≡ true → new.at ≡ length new.file.items
 
--- What a reader keeps while there was no error: the file as far as it is read, and the end of the file where that stands, which is at the file's end.
+-- What a reader keeps while there was no error: the file as far as it is read, and the end of the file where that
+-- stands, which is at the file's end.
 pub record Keeps (reached : Reached) (last : Option Given) : Type 0 where
   pub sound : IsSound reached
   pub closed : reached.closed ≡ is_some last
@@ -85,5 +90,6 @@ pub record Keeps (reached : Reached) (last : Option Given) : Type 0 where
 -- where the body of an item stands that begins and ends at these places, by the plans of the classes
 abbrev pub body_range : List (ℕ × List Field) → ℕ → ℕ → Given → ℕ × ℕ
 body_range plans at end (given.Entry place class changed) = (at, at)
-body_range plans at end (given.Table place class length) = if is_none (plan_of plans class) then (at, at) else (at + 14, end)
+body_range plans at end (given.Table place class length) = if is_none (plan_of plans class) then (at, at)
+    else (at + 14, end)
 body_range plans at end item = (at + 14, end)

@@ -1,7 +1,13 @@
 -- The reasons for which a file is not accepted: their numbers, in the order in which they are judged, and their names.
 use Rattle.std.specs.Prelude.{ℕ, List, codes}
 use Rattle.item_reader.specs.declared.reason.Reason.{Reason}
-use Rattle.item_reader.specs.declared.reason.Reason.TheVariants.{CutHeader, BadHeader, CutRecord, LengthSmall, RecordLimit, FrameLimit, NoLayout, UnreadLayout, BodyShort, BodyLong, BadText, StrayElement, ClassRange, Redefined, NameTwice, ElementLimit, InstanceTwice, FrameHTwice, NoFrameH, LooseLink, OpenFrame, BadClosing, AfterTable, NoEnd, FrameCount, ByteCount, Trailing, FileLimit, FramesLimit}
+use Rattle.item_reader.specs.declared.reason.Reason.TheVariants.{CutHeader, BadHeader, CutRecord, LengthSmall}
+use Rattle.item_reader.specs.declared.reason.Reason.TheVariants.{RecordLimit, FrameLimit, NoLayout, UnreadLayout}
+use Rattle.item_reader.specs.declared.reason.Reason.TheVariants.{BodyShort, BodyLong, BadText, StrayElement, ClassRange}
+use Rattle.item_reader.specs.declared.reason.Reason.TheVariants.{Redefined, NameTwice, ElementLimit, InstanceTwice}
+use Rattle.item_reader.specs.declared.reason.Reason.TheVariants.{FrameHTwice, NoFrameH, LooseLink, OpenFrame}
+use Rattle.item_reader.specs.declared.reason.Reason.TheVariants.{BadClosing, AfterTable, NoEnd, FrameCount, ByteCount}
+use Rattle.item_reader.specs.declared.reason.Reason.TheVariants.{Trailing, FileLimit, FramesLimit}
 
 abbrev pub number_of : Reason → ℕ
 number_of CutHeader = 1

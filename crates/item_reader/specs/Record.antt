@@ -1,5 +1,6 @@
 -- What a structure's body holds by the dictionary, its weight, and the targets of its links.
-use Rattle.std.specs.Prelude.{◌≡◌, ℕ, ◌+◌, ◌==◌, ◌&&◌, ◌⊎◌, Bool, not, List, [], ◌∷◌, length, All, Any, find, is_some, Option, Some, None, option_and_then}
+use Rattle.std.specs.Prelude.{◌≡◌, ℕ, ◌+◌, ◌==◌, ◌&&◌, ◌⊎◌, Bool, not, List, [], ◌∷◌, length, All, Any, find, is_some}
+use Rattle.std.specs.Prelude.{Option, Some, None, option_and_then}
 use Rattle.std.specs.Option.{option_map, option_map_or}
 use Rattle.std.specs.Result.{result_ok}
 use Rattle.scalar_types.specs.declared.Order.{Order}
@@ -29,7 +30,8 @@ pub record Reading : Type 0 where
 -- what a body holds by a layout, where it spells it
 abbrev pub reading_by : Order → List ℕ → List Field → Option Reading
 reading_by order body fields =
-    option_map (λ found. record { fields = fields; values = found.0; tail = found.1 }) (result_ok (body_in order fields body))
+    option_map (λ found. record { fields = fields; values = found.0; tail = found.1 })
+    (result_ok (body_in order fields body))
 
 -- what a structure's body holds by the layout of its class, where it spells it
 abbrev pub reading_of : Order → List Entry → Structure → Option Reading
@@ -39,10 +41,12 @@ reading_of order held s = option_and_then (reading_by order s.body) (layout_in h
 abbrev pub values_of : Order → List Entry → Structure → List Value
 values_of order held s = option_map_or (λ reading. reading.values) (reading_of order held s) []
 
--- The weight of a structure is its length, and one more for each text that is spelled by a length of 0 alone: so the length that it has with each text closed by its zero byte. The weight of one whose body is not read is its length.
+-- The weight of a structure is its length, and one more for each text that is spelled by a length of 0 alone: so the
+-- length that it has with each text closed by its zero byte. The weight of one whose body is not read is its length.
 abbrev pub weight_of : Order → List Entry → Structure → ℕ
 weight_of order held s =
-    option_map_or (λ reading. 14 + (values_length reading.fields reading.values + length reading.tail)) (reading_of order held s) (size_of s)
+    option_map_or (λ reading. 14 + (values_length reading.fields reading.values + length reading.tail))
+    (reading_of order held s) (size_of s)
 
 -- the structure is the one with a link's class and instance
 abbrev pub is_target : Link → Structure → Bool
@@ -61,11 +65,13 @@ abbrev pub loose_field : List Structure → List FieldLink → Option ℕ
 loose_field frame links =
     option_map (λ (found : FieldLink). found.field) (find (λ (found : FieldLink). is_loose frame found.link) links)
 
--- The place and the field of the first loose link of these records: in the order of the file, within a record in that of its fields, and within a field in that of its items.
+-- The place and the field of the first loose link of these records: in the order of the file, within a record in that
+-- of its fields, and within a field in that of its items.
 abbrev pub first_loose : Order → List Entry → List Structure → List Structure → Option (ℕ × ℕ)
 first_loose order held frame [] = None
 first_loose order held frame (s ∷ ss) =
-    option_map_or (λ field. Some (s.at, field)) (loose_field frame (field_links 0 (values_of order held s))) (first_loose order held frame ss)
+    option_map_or (λ field. Some (s.at, field)) (loose_field frame (field_links 0 (values_of order held s)))
+    (first_loose order held frame ss)
 
 -- a link that is null or leads to a record of the frame
 abbrev pub HasTarget : List Structure → Link → Type 0

@@ -1,4 +1,5 @@
--- A structure where it stands in a file, and how large structures and files may be (LIGO-T970130 v8, the elements that all structures have in common).
+-- A structure where it stands in a file, and how large structures and files may be (LIGO-T970130 v8, the elements that
+-- all structures have in common).
 use Rattle.std.specs.Prelude.{◌≡◌, ℕ, ◌+◌, ◌-◌, ◌≤◌, List, length, drop, slice_range}
 use Rattle.scalar_types.specs.declared.Order.{Order}
 use Rattle.frame_head.specs.declared.structure.Common.{Common}
@@ -35,7 +36,8 @@ common_at order file at = common_of order (drop at file)
 abbrev pub left_at : List ℕ → ℕ → ℕ
 left_at file at = length file - at
 
--- the structure at a place, as the 14 bytes there tell it; where the file ends before it does, its body is what there is
+-- the structure at a place, as the 14 bytes there tell it; where the file ends before it does, its body is what there
+-- is
 abbrev pub structure_at : Order → List ℕ → ℕ → Structure
 structure_at order file at = record {
   at = at;

@@ -3,7 +3,8 @@
 ghost use Rattle.std.specs.Prelude.{◌≡◌};
 ghost use Rattle.std.specs.List.{list_all};
 ghost use Rattle.std.specs.Option.{option_copied};
-ghost use Rattle.item_reader.specs.Closing.{closes, has_named, is_single, is_any, is_count, is_size, single_base};
+ghost use Rattle.item_reader.specs.Closing.{closes, has_named, is_single, is_any, is_count, is_size};
+ghost use Rattle.item_reader.specs.Closing.{single_base};
 
 use dictionary::{Element, first_named};
 use type_text::Base;

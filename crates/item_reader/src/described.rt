@@ -3,7 +3,8 @@
 ghost use Rattle.std.specs.Prelude.{◌≡◌, ◌≤◌, IfOk, IfSome, length, is_some};
 ghost use Rattle.layout_plan.specs.BuiltIn.{structure_fields, element_fields};
 ghost use Rattle.item_reader.specs.Described.{element_at};
-ghost use Rattle.item_reader.specs.Steps.{IsPlaced, DescribesElement, DescribesRun, DescribesEntry, ReadsHead, ReadsElement};
+ghost use Rattle.item_reader.specs.Steps.{IsPlaced, DescribesElement, DescribesRun, DescribesEntry, ReadsHead};
+ghost use Rattle.item_reader.specs.Steps.{ReadsElement};
 
 use crate::structure::{FILE_LIMIT, Placed, length_reason, placed_at};
 use dictionary::{Element, ElementList, Entry};
@@ -24,7 +25,8 @@ pub struct BuiltIn {
 
 impl BuiltIn {
     pub fn new(alloc: Global) -> Result<BuiltIn, AllocError>
-        ensures { IfOk result (λ plans. plans ≡ record { structure = structure_fields; element = element_fields }) }
+        ensures { IfOk result (λ plans. plans
+            ≡ record { structure = structure_fields; element = element_fields }) }
     {
         Ok(BuiltIn {
             structure: structure_plan(alloc)?,

@@ -47,7 +47,8 @@ impl Reached {
     /// its body.
     pub fn first_loose(&self, alloc: Global) -> Result<Option<(usize, u32)>, AllocError>
         requires { IsSound self.now }
-        ensures { IfOk result (λ found. found ≡ first_loose self.now.order self.now.dictionary (frame_of self.now) (frame_of self.now)) }
+        ensures { IfOk result (λ found. found
+            ≡ first_loose self.now.order self.now.dictionary (frame_of self.now) (frame_of self.now)) }
     {
         let mut links = Vec::new(alloc);
         for at in self.frame.as_slice() {
@@ -62,7 +63,10 @@ impl Reached {
     fn loose_field(&self, at: usize, links: &mut Vec<FieldLink>) -> Result<Option<u32>, AllocError>
         requires sound { IsSound self.now }
         requires kept { IsKept self.now at }
-        ensures { IfOk result (λ found. found ≡ loose_field (frame_of self.now) (field_links 0 (values_of self.now.order self.now.dictionary (structure_at self.now.order self.now.file.items at)))) }
+        ensures { IfOk result (λ found. found
+            ≡ loose_field (frame_of self.now)
+            (field_links 0 (values_of self.now.order self.now.dictionary
+            (structure_at self.now.order self.now.file.items at)))) }
     {
         let record = placed_at(self.order, self.file.as_slice(), at);
         let Some(plan) = self.plans.plan(record.class) else {

@@ -1,6 +1,7 @@
 //! The judgement of a whole structure at the place reached, by its kind: the first reason for which it may not stand there.
 
-ghost use Rattle.std.specs.Prelude.{◌≡◌, ◌+◌, ◌^◌, ◌<◌, ◌==◌, ◌&&◌, ◌||◌, [], None, Some, true, nat_lt, codes, IfOk, IfErr};
+ghost use Rattle.std.specs.Prelude.{◌≡◌, ◌+◌, ◌^◌, ◌<◌, ◌==◌, ◌&&◌, ◌||◌, [], None, Some, true, nat_lt, codes};
+ghost use Rattle.std.specs.Prelude.{IfOk, IfErr};
 ghost use Rattle.std.specs.Option.{option_map_or};
 ghost use Rattle.dictionary.specs.Dictionary.{entry_of, IsDictionary};
 ghost use Rattle.item_reader.specs.declared.kind.Kind.TheVariants as variant;
@@ -11,7 +12,10 @@ ghost use Rattle.item_reader.specs.Closing.{closes, has_named, is_count, field_n
 ghost use Rattle.item_reader.specs.Fault.{fields, elements, number, has_header, place, told, fault_at};
 ghost use Rattle.item_reader.specs.Steps.{reason_of};
 ghost use Rattle.item_reader.specs.Reached.{IsSound, here_of, frame_of};
-ghost use Rattle.item_reader.specs.Judged.{IsHere, kind_here, first_here, ReadsHere, is_read_kind, body_reasons, reading_reasons, weighing_reasons, place_reasons, record_reasons, frame_end_reasons, table_reasons, count_reasons, closing_reasons, IsReadBy, IsRead, IsWeighed};
+ghost use Rattle.item_reader.specs.Judged.{IsHere, kind_here, first_here, ReadsHere, is_read_kind};
+ghost use Rattle.item_reader.specs.Judged.{body_reasons, reading_reasons, weighing_reasons, place_reasons};
+ghost use Rattle.item_reader.specs.Judged.{record_reasons, frame_end_reasons, table_reasons, count_reasons};
+ghost use Rattle.item_reader.specs.Judged.{closing_reasons, IsReadBy, IsRead, IsWeighed};
 
 use crate::closing::{BYTES, FRAMES, TABLE, closes};
 use crate::fault::Fault;
@@ -211,7 +215,8 @@ impl Reached {
 
     /// The elements that the dictionary has for a class.
     fn elements(&self, class: u8) -> &[Element]
-        ensures elements { result.now ≡ option_map_or (λ e. e.elements) (entry_of self.now.dictionary class) [] }
+        ensures elements { result.now
+            ≡ option_map_or (λ e. e.elements) (entry_of self.now.dictionary class) [] }
         ensures sound { IsDictionary self.now.dictionary }
     {
         match self.dictionary.get(class) {
@@ -226,7 +231,10 @@ impl Reached {
         requires here { IsHere self.now end }
         requires reads { ReadsHere (here_of self.now) }
         requires named { has_named (elements (here_of self.now)) name.now is_count ≡ true }
-        ensures { result ≡ (field_named (elements (here_of self.now)) name.now, number (here_of self.now) name.now) }
+        ensures { result ≡ (
+          field_named (elements (here_of self.now)) name.now,
+          number (here_of self.now) name.now,
+        ) }
     {
         let Some(plan) = self.plans.plan(end.class) else {
             return (0, 0);

@@ -1,6 +1,7 @@
 //! The reader of a file's items.
 
-ghost use Rattle.std.specs.Prelude.{◌≡◌, ◌≢◌, ◌+◌, ◌<◌, ◌≤◌, ℕ, [], false, None, Some, Ok, Err, length, take, IfOk, OnOk, IfErr};
+ghost use Rattle.std.specs.Prelude.{◌≡◌, ◌≢◌, ◌+◌, ◌<◌, ◌≤◌, ℕ, [], false, None, Some, Ok, Err, length, take};
+ghost use Rattle.std.specs.Prelude.{IfOk, OnOk, IfErr};
 ghost use Rattle.frame_outside.specs.Counts.{Rose};
 ghost use Rattle.frame_outside.specs.Shelf.{Told, IsSource, reading_at};
 ghost use Rattle.frame_outside.specs.SlotReader.{Draws};
@@ -11,7 +12,8 @@ ghost use Rattle.item_reader.specs.Item.{nothing_yet};
 ghost use Rattle.frame_head.specs.Header.{header_of};
 ghost use Rattle.item_reader.specs.Fault.{IsFirstFault, IsHeaderFault};
 ghost use Rattle.item_reader.specs.Reached.{IsSound, here_of};
-ghost use Rattle.item_reader.specs.Reader.{file_of, Reads, Goes, HasEnded, IsFileEnd, Faults, TakesOn, body_range};
+ghost use Rattle.item_reader.specs.Reader.{file_of, Reads, Goes, HasEnded, IsFileEnd, Faults, TakesOn};
+ghost use Rattle.item_reader.specs.Reader.{body_range};
 
 use crate::fault::Fault;
 use crate::item::{Item, ReadError};
@@ -59,7 +61,8 @@ impl Model for ItemReader {
       bytes = r.reached.file.items;
     } };
 
-    ghost invariant = { λ r. (r.error ≡ None → Keeps r.reached r.last) × (r.body.0 ≤ r.body.1) × (r.body.1 ≤ length r.reached.file.items) };
+    ghost invariant = { λ r. (r.error ≡ None → Keeps r.reached r.last) × (r.body.0 ≤ r.body.1)
+        × (r.body.1 ≤ length r.reached.file.items) };
 }
 
 impl ItemReader {
@@ -72,11 +75,14 @@ impl ItemReader {
         requires beginning { Told (reading_at (S.outside shelf.old).slots slot) (λ reading. reading.at ≡ 0) }
         ensures reads { IfOk result (λ reader. Reads (S.outside shelf.new) reader) }
         ensures slot { IfOk result (λ reader. reader.slot ≡ slot) }
-        ensures begun { IfOk result (λ reader. (reader.before ≡ nothing_yet) × (reader.body ≡ []) × (reader.last ≡ None) × (reader.error ≡ None)) }
-        ensures fault { (fault : Fault) → result ≡ Err (ReadError.Fault fault) → Told (file_of (S.outside shelf.old) slot) (λ file. IsFirstFault file fault) }
+        ensures begun { IfOk result (λ reader. (reader.before ≡ nothing_yet) × (reader.body ≡ [])
+            × (reader.last ≡ None) × (reader.error ≡ None)) }
+        ensures fault { (fault : Fault) → result ≡ Err (ReadError.Fault fault)
+            → Told (file_of (S.outside shelf.old) slot) (λ file. IsFirstFault file fault) }
         ensures header { (fault : Fault) → result ≡ Err (ReadError.Fault fault)
             → Told (file_of (S.outside shelf.old) slot) (λ file. IsHeaderFault file fault) }
-        ensures device { result ≡ Err ReadError.Device → Rose (S.outside shelf.old).faults (S.outside shelf.new).faults }
+        ensures device { result ≡ Err ReadError.Device
+            → Rose (S.outside shelf.old).faults (S.outside shelf.new).faults }
         ensures draws { Draws (S.outside shelf.old) (S.outside shelf.new) slot }
     {
         let file = whole_file(alloc, shelf, slot)?;
@@ -101,20 +107,27 @@ impl ItemReader {
         ensures reads { Reads (S.outside shelf.new) self.new }
         ensures slot { self.new.slot ≡ self.old.slot }
         ensures order { self.new.order ≡ self.old.order }
-        ensures item { IfOk result (λ item. self.old.last ≡ None → Told (file_of (S.outside shelf.old) self.old.slot) (λ file. Goes file self.old item self.new)) }
-        ensures on { IfOk result (λ item. self.old.last ≡ None → self.old.before.place < self.new.before.place) }
+        ensures item { IfOk result (λ item. self.old.last ≡ None
+            → Told (file_of (S.outside shelf.old) self.old.slot) (λ file. Goes file self.old item self.new)) }
+        ensures on { IfOk result (λ item. self.old.last ≡ None
+            → self.old.before.place < self.new.before.place) }
         ensures within { IfOk result (λ item. self.old.last ≡ None → self.new.before.place ≤ file_limit) }
-        ensures end { IfOk result (λ item. IsFileEnd item → Told (file_of (S.outside shelf.old) self.old.slot) (λ file. HasEnded file self.new)) }
-        ensures fault { (fault : Fault) → result ≡ Err (ReadError.Fault fault) → self.old.error ≡ None → Told (file_of (S.outside shelf.old) self.old.slot) (λ file. IsFirstFault file fault) }
+        ensures end { IfOk result (λ item. IsFileEnd item
+            → Told (file_of (S.outside shelf.old) self.old.slot) (λ file. HasEnded file self.new)) }
+        ensures fault { (fault : Fault) → result ≡ Err (ReadError.Fault fault) → self.old.error ≡ None
+            → Told (file_of (S.outside shelf.old) self.old.slot) (λ file. IsFirstFault file fault) }
         ensures at { (fault : Fault) → result ≡ Err (ReadError.Fault fault) → self.old.error ≡ None
             → Told (file_of (S.outside shelf.old) self.old.slot) (λ file.
             Faults (record { order = self.old.order; file = file; before = self.old.before }) fault) }
-        ensures device { result ≡ Err ReadError.Device → self.old.error ≡ None → Rose (S.outside shelf.old).faults (S.outside shelf.new).faults }
+        ensures device { result ≡ Err ReadError.Device → self.old.error ≡ None
+            → Rose (S.outside shelf.old).faults (S.outside shelf.new).faults }
         ensures draws { Draws (S.outside shelf.old) (S.outside shelf.new) self.old.slot }
 
         // What is given again, and from when on.
-        ensures error_again { (error : ReadError) → self.old.error ≡ Some error → (result ≡ Err error) × (self.new ≡ self.old) }
-        ensures end_again { (item : Item) → self.old.error ≡ None → self.old.last ≡ Some item → (result ≡ Ok item) × (self.new ≡ self.old) }
+        ensures error_again { (error : ReadError) → self.old.error ≡ Some error → (result ≡ Err error)
+            × (self.new ≡ self.old) }
+        ensures end_again { (item : Item) → self.old.error ≡ None → self.old.last ≡ Some item
+            → (result ≡ Ok item) × (self.new ≡ self.old) }
         ensures error { IfErr result (λ error. self.new.error ≡ Some error) }
         ensures no_error { OnOk result (self.new.error ≡ None) }
         ensures last { IfOk result (λ item. IsFileEnd item → self.new.last ≡ Some item) }
@@ -155,7 +168,8 @@ impl ItemReader {
 
     /// The plans of the dictionary's entries: a class has one where it is held and its layout is readable.
     pub fn plans(&self) -> &Plans
-        ensures { self.now.error ≡ None → (class : ℕ) → plan_of result.now class ≡ layout_in self.now.before.dictionary class }
+        ensures { self.now.error ≡ None → (class : ℕ)
+            → plan_of result.now class ≡ layout_in self.now.before.dictionary class }
     {
         &self.reached.plans
     }
@@ -220,7 +234,8 @@ fn next_item(reached: &mut Reached) -> Result<(Item, (usize, usize)), ReadError>
     requires sound { IsSound reached.old }
     requires open { reached.old.closed ≡ false }
     ensures ok { IfOk result (λ given. TakesOn reached.old given.0 given.1 reached.new) }
-    ensures fault { (fault : Fault) → result ≡ Err (ReadError.Fault fault) → Faults (here_of reached.old) fault }
+    ensures fault { (fault : Fault) → result ≡ Err (ReadError.Fault fault)
+        → Faults (here_of reached.old) fault }
     ensures no_device { result ≢ Err ReadError.Device }
     ensures file { reached.new.file ≡ reached.old.file }
     ensures order { reached.new.order ≡ reached.old.order }

@@ -10,7 +10,8 @@ ghost use Rattle.item_reader.specs.Described.{entry_from};
 ghost use Rattle.item_reader.specs.Fault.{fault_here, fault_at, structure};
 ghost use Rattle.item_reader.specs.Steps.{refusal_reason};
 ghost use Rattle.item_reader.specs.Reached.{IsSound, Takes, here_of};
-ghost use Rattle.item_reader.specs.Judged.{IsHere, kind_here, first_here, body_reasons, Answers, AnswersHolding};
+ghost use Rattle.item_reader.specs.Judged.{IsHere, kind_here, first_here, body_reasons, Answers};
+ghost use Rattle.item_reader.specs.Judged.{AnswersHolding};
 
 use crate::fault::Fault;
 use crate::item::{Item, ReadError};
@@ -27,7 +28,8 @@ impl Reached {
         requires sound { IsSound self.old }
         requires open { self.old.closed ≡ false }
         ensures ok { IfOk result (λ item. Takes self.old item self.new) }
-        ensures fault { (fault : Fault) → result ≡ Err (ReadError.Fault fault) → fault_here (here_of self.old) ≡ Some fault }
+        ensures fault { (fault : Fault) → result ≡ Err (ReadError.Fault fault)
+            → fault_here (here_of self.old) ≡ Some fault }
         ensures no_device { result ≢ Err ReadError.Device }
         ensures file { self.new.file ≡ self.old.file }
         ensures order { self.new.order ≡ self.old.order }
@@ -103,7 +105,8 @@ impl Reached {
         requires sound { IsSound self.old }
         requires here { IsHere self.old head }
         requires kind { kind_here self.old ≡ variant.FrSH }
-        requires entry { entry_from self.old.order self.old.file.items (structure (here_of self.old)) ≡ Some entry }
+        requires entry { entry_from self.old.order self.old.file.items
+            (structure (here_of self.old)) ≡ Some entry }
         requires read { AreRead entry.elements }
         ensures answers { AnswersHolding self.old entry result self.new }
         ensures file { self.new.file ≡ self.old.file }
@@ -128,7 +131,8 @@ impl Reached {
 
     /// The error of an entry that the dictionary does not take.
     fn refusal(&self, fault: AddFault) -> ReadError
-        ensures { result ≡ option_map_or (λ reason. ReadError.Fault (fault_at reason (self.now.at, 0))) (refusal_reason fault) ReadError.NoMemory }
+        ensures { result ≡ option_map_or (λ reason. ReadError.Fault (fault_at reason (self.now.at, 0)))
+            (refusal_reason fault) ReadError.NoMemory }
     {
         match fault {
             AddFault::ClassRange => self.fault(Reason::ClassRange).into(),

@@ -11,9 +11,11 @@ use std::alloc::Global;
 /// The bytes that a source slot has left. No more memory is asked for than bytes are there.
 pub fn whole_file<S: Shelf>(alloc: Global, shelf: &mut S, slot: u32) -> Result<Vec<u8>, ShelfError>
     requires { IsSource (S.outside shelf.old).slots slot }
-    ensures bytes { IfOk result (λ file. Told (reading_at (S.outside shelf.old).slots slot) (λ reading. file.items ≡ left_of reading)) }
+    ensures bytes { IfOk result
+        (λ file. Told (reading_at (S.outside shelf.old).slots slot) (λ reading. file.items ≡ left_of reading)) }
     ensures draws { Draws (S.outside shelf.old) (S.outside shelf.new) slot }
-    ensures failed { IsErrOf result ShelfError.Failed → Rose (S.outside shelf.old).faults (S.outside shelf.new).faults }
+    ensures failed { IsErrOf result ShelfError.Failed
+        → Rose (S.outside shelf.old).faults (S.outside shelf.new).faults }
 {
     let Ok(mut reader) = SlotReader::new(alloc, slot) else {
         return Err(ShelfError::NoMemory);

@@ -19,7 +19,8 @@ pub fn field_value(
     earlier: &[u64],
     cursor: &mut Cursor,
 ) -> Result<Value, Stop>
-    ensures { TakesOrStops (field_in order earlier.now field.now.form field.now.counts cursor.old) result cursor.new }
+    ensures { TakesOrStops (field_in order earlier.now field.now.form field.now.counts cursor.old)
+        result cursor.new }
 {
     if field.counts.is_empty() {
         return single(alloc, order, field.form, cursor);

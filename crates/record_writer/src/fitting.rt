@@ -1,7 +1,8 @@
 //! Whether values fit the fields of a layout.
 ghost use Rattle.std.specs.Prelude.{◌≡◌, ◌≤◌, ◌<◌, ◌-◌, ◌^◌, ◌↔◌, length, take, map, All, IsTrue};
 ghost use Rattle.layout_plan.specs.Body.{number_of, item_count};
-ghost use Rattle.record_writer.specs.Fit.{FitsWidth, PairFitsWidth, IsShortText, FitsSingle, FitsListed, FitsField, Fits};
+ghost use Rattle.record_writer.specs.Fit.{FitsWidth, PairFitsWidth, IsShortText, FitsSingle, FitsListed};
+ghost use Rattle.record_writer.specs.Fit.{FitsField, Fits};
 
 use layout_plan::{Count, FEW_FIELDS, FIELD_LIMIT, Field, Form, capped_count};
 use record_values::Value;

@@ -1,6 +1,7 @@
 //! The number of bytes of values where each text is closed by its zero byte. None stands for 2^64 bytes or more.
 ghost use Rattle.std.specs.Prelude.{◌<◌, ◌^◌, SomeIff, length, sum_by};
-ghost use Rattle.layout_plan.specs.Body.{values_length, value_length as length_of, text_length as closed_length};
+ghost use Rattle.layout_plan.specs.Body.{values_length, value_length as length_of};
+ghost use Rattle.layout_plan.specs.Body.{text_length as closed_length};
 
 use layout_plan::{Field, Form, LINK_SIZE};
 use record_values::Value;
@@ -11,7 +12,8 @@ const TEXT_FRAME: u64 = 3;
 
 /// The bytes of the values.
 pub fn fields_length(fields: &[Field], values: &[Value]) -> Option<u64>
-    ensures { SomeIff result (values_length fields.now values.now < 2 ^ 64) (values_length fields.now values.now) }
+    ensures { SomeIff result (values_length fields.now values.now < 2 ^ 64)
+        (values_length fields.now values.now) }
 {
     let mut length: u64 = 0;
     for (field, value) in fields.iter().zip(values) {

@@ -5,7 +5,8 @@ ghost use Rattle.record_values.specs.Spelling.{IsNumber, IsPair, IsClosedText, A
 ghost use Rattle.layout_plan.specs.Appends.{Appends};
 ghost use Rattle.layout_plan.specs.Body.{number_of, IsSingleBy, IsListedBy, IsFieldBy};
 ghost use Rattle.layout_plan.specs.Written.{AreClosedFields};
-ghost use Rattle.record_writer.specs.Fit.{FitsWidth, PairFitsWidth, IsShortText, FitsSingle, FitsListed, FitsField, Fits};
+ghost use Rattle.record_writer.specs.Fit.{FitsWidth, PairFitsWidth, IsShortText, FitsSingle, FitsListed};
+ghost use Rattle.record_writer.specs.Fit.{FitsField, Fits};
 
 use layout_plan::spelling::{push_link, push_links, push_number};
 use layout_plan::{Field, Form};

@@ -6,8 +6,10 @@ use Rattle.item_reader.proofs.whole_file.whole_file.Given as goal
 
 abbrev pub invariant-pieces : goal.invariant-pieces
 invariant-pieces g l = record {
-  gone : HasGone (g.S.Shelf.outside l.fn.shelf) (g.S.Shelf.outside l.shelf) (record { slot = l.fn.slot; ahead = [] }) l.reader (length l.file.items);
-  filled : Told (reading_at (g.S.Shelf.outside l.fn.shelf).slots l.fn.slot) (λ reading. l.file.items ≡ take (length l.file.items) (left_of reading));
+  gone : HasGone (g.S.Shelf.outside l.fn.shelf) (g.S.Shelf.outside l.shelf) (record { slot = l.fn.slot; ahead = [] })
+      l.reader (length l.file.items);
+  filled : Told (reading_at (g.S.Shelf.outside l.fn.shelf).slots l.fn.slot)
+      (λ reading. l.file.items ≡ take (length l.file.items) (left_of reading));
 }
 
 abbrev pub decreases-pieces : goal.decreases-pieces

@@ -6,4 +6,5 @@ use Rattle.item_reader.proofs.reached.Reached.has_target.Given as goal
 
 abbrev pub invariant-loop-at : goal.invariant-loop-at
 invariant-loop-at l =
-    has_target (map (structure_at l.self.order l.self.file.items) (drop l.at-index l.self.frame.items)) l.link ≡ has_target (frame_of l.self) l.link
+    has_target (map (structure_at l.self.order l.self.file.items) (drop l.at-index l.self.frame.items)) l.link
+    ≡ has_target (frame_of l.self) l.link

@@ -2,43 +2,60 @@ use Rattle.std.proofs.Common.{◌≡◌, ◌≤◌, None, Ok, true, false, is_so
 use Rattle.dictionary.specs.Dictionary.{entry_of, step, IsHeld}
 use Rattle.layout_plan.proofs.LayoutLemmas.{copied-None, copied-is_some}
 use Rattle.item_reader.specs.declared.reached.Reached.{Reached}
-use Rattle.item_reader.proofs.Holding.{step-added, class-stepped, unchanged-none, unchanged-known, holds-unchanged, holds-grown}
+use Rattle.item_reader.proofs.Holding.{step-added, class-stepped, unchanged-none, unchanged-known, holds-unchanged}
+use Rattle.item_reader.proofs.Holding.{holds-grown}
 use Rattle.item_reader.proofs.reached.Reached.hold.Goals as goal
 
 pub learn-requires : goal.learn-requires
 learn-requires c =
     let r = c.args.self.now in
     let e = c.args.entry in
-    let stepped : step r.dictionary e ≡ Ok c.add.new.self = step-added r.dictionary e c.add.result c.add.new.self c.in_default.field-0 c.add.ensures.refused c.add.ensures.accepted c.in_default.is in
+    let stepped : step r.dictionary e ≡ Ok c.add.new.self =
+    step-added r.dictionary e c.add.result c.add.new.self c.in_default.field-0 c.add.ensures.refused
+    c.add.ensures.accepted c.in_default.is in
     let high : e.class ≤ 255 = class-stepped r.dictionary e c.add.new.self stepped in
-    let held : IsHeld c.add.new.self c.in-Some.entry.now = (c.held-2.ensures.sound high).entries e.class c.in-Some.entry.now (sym (c.in-Some.ensures.found high)) in
+    let held : IsHeld c.add.new.self c.in-Some.entry.now =
+    (c.held-2.ensures.sound high).entries e.class c.in-Some.entry.now (sym (c.in-Some.ensures.found high)) in
     record { low = held.low; high = held.high; short = held.short }
 
 pub returns-in_ok-learn-in-Some-clause-answers : goal.returns-in_ok-learn-in-Some-clause-answers
 returns-in_ok-learn-in-Some-clause-answers c =
     let r = c.args.self.now in
     let e = c.args.entry in
-    let stepped : step r.dictionary e ≡ Ok c.add.new.self = step-added r.dictionary e c.add.result c.add.new.self c.in_default.field-0 c.add.ensures.refused c.add.ensures.accepted c.in_default.is in
+    let stepped : step r.dictionary e ≡ Ok c.add.new.self =
+    step-added r.dictionary e c.add.result c.add.new.self c.in_default.field-0 c.add.ensures.refused
+    c.add.ensures.accepted c.in_default.is in
     let high : e.class ≤ 255 = class-stepped r.dictionary e c.add.new.self stepped in
     let known : is_some c.held.result ≡ false = sym c.is_some-known.ensures ∙ c.if-not-known.true in
-    let fresh : entry_of r.dictionary e.class ≡ None = sym (c.held.ensures.found high) ∙ copied-None c.held.result known in
+    let fresh : entry_of r.dictionary e.class ≡ None = sym (c.held.ensures.found high)
+    ∙ copied-None c.held.result known in
     let learned : Reached = record r { plans = c.learn.new.self } in
-    holds-grown r e c.in-Some.entry.now c.add.new.self learned c.requires.sound.plans c.requires.kind c.requires.entry stepped (sym c.is_beyond.ensures ∙ c.if-is_beyond.false) fresh (sym (c.in-Some.ensures.found high)) c.in_ok-learn-in-Some.ensures.read c.learn.ensures.unread
+    holds-grown r e c.in-Some.entry.now c.add.new.self learned c.requires.sound.plans c.requires.kind c.requires.entry
+    stepped (sym c.is_beyond.ensures ∙ c.if-is_beyond.false) fresh (sym (c.in-Some.ensures.found high))
+    c.in_ok-learn-in-Some.ensures.read c.learn.ensures.unread
 
 pub returns-in_default-held-clause-answers : goal.returns-in_default-held-clause-answers
 returns-in_default-held-clause-answers c =
     let r = c.args.self.now in
     let e = c.args.entry in
-    let stepped : step r.dictionary e ≡ Ok c.add.new.self = step-added r.dictionary e c.add.result c.add.new.self c.in_default.field-0 c.add.ensures.refused c.add.ensures.accepted c.in_default.is in
+    let stepped : step r.dictionary e ≡ Ok c.add.new.self =
+    step-added r.dictionary e c.add.result c.add.new.self c.in_default.field-0 c.add.ensures.refused
+    c.add.ensures.accepted c.in_default.is in
     let high : e.class ≤ 255 = class-stepped r.dictionary e c.add.new.self stepped in
-    let known : is_some (entry_of r.dictionary e.class) ≡ true = ap is_some (sym (c.held.ensures.found high)) ∙ copied-is_some c.held.result ∙ sym c.is_some-known.ensures ∙ c.if-not-known.false in
-    holds-unchanged r e c.add.new.self c.requires.sound.plans c.requires.kind c.requires.entry stepped (sym c.is_beyond.ensures ∙ c.if-is_beyond.false) (unchanged-known r.dictionary e c.add.new.self stepped known)
+    let known : is_some (entry_of r.dictionary e.class) ≡ true = ap is_some (sym (c.held.ensures.found high))
+    ∙ copied-is_some c.held.result ∙ sym c.is_some-known.ensures ∙ c.if-not-known.false in
+    holds-unchanged r e c.add.new.self c.requires.sound.plans c.requires.kind c.requires.entry stepped
+    (sym c.is_beyond.ensures ∙ c.if-is_beyond.false) (unchanged-known r.dictionary e c.add.new.self stepped known)
 
 pub returns-in_default-held-2-clause-answers : goal.returns-in_default-held-2-clause-answers
 returns-in_default-held-2-clause-answers c =
     let r = c.args.self.now in
     let e = c.args.entry in
-    let stepped : step r.dictionary e ≡ Ok c.add.new.self = step-added r.dictionary e c.add.result c.add.new.self c.in_default.field-0 c.add.ensures.refused c.add.ensures.accepted c.in_default.is in
+    let stepped : step r.dictionary e ≡ Ok c.add.new.self =
+    step-added r.dictionary e c.add.result c.add.new.self c.in_default.field-0 c.add.ensures.refused
+    c.add.ensures.accepted c.in_default.is in
     let high : e.class ≤ 255 = class-stepped r.dictionary e c.add.new.self stepped in
-    let none : entry_of c.add.new.self e.class ≡ None = sym (c.held-2.ensures.found high) ∙ copied-None c.held-2.result (ap is_some c.in_default-held.is) in
-    holds-unchanged r e c.add.new.self c.requires.sound.plans c.requires.kind c.requires.entry stepped (sym c.is_beyond.ensures ∙ c.if-is_beyond.false) (unchanged-none r.dictionary e c.add.new.self stepped none)
+    let none : entry_of c.add.new.self e.class ≡ None = sym (c.held-2.ensures.found high)
+    ∙ copied-None c.held-2.result (ap is_some c.in_default-held.is) in
+    holds-unchanged r e c.add.new.self c.requires.sound.plans c.requires.kind c.requires.entry stepped
+    (sym c.is_beyond.ensures ∙ c.if-is_beyond.false) (unchanged-none r.dictionary e c.add.new.self stepped none)

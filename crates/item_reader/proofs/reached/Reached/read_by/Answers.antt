@@ -12,7 +12,9 @@ returns-in-Ok-clause-ok c =
     let r = c.args.self.now in
     let p = c.args.structure in
     let m = c.in-Ok.measured in
-    let read : c.body.result.now ≡ (structure (here_of r)).body = rw c.as_slice.ensures.value at c.body.ensures ∙ sym (body-here r p c.requires.here) in
-    let size : told (here_of r) ≡ size_of (structure (here_of r)) = told-here r p c.requires.here ∙ sym (size-here r p c.requires.here) in
+    let read : c.body.result.now ≡ (structure (here_of r)).body = rw c.as_slice.ensures.value at c.body.ensures
+    ∙ sym (body-here r p c.requires.here) in
+    let size : told (here_of r) ≡ size_of (structure (here_of r)) = told-here r p c.requires.here
+    ∙ sym (size-here r p c.requires.here) in
     measured-read (here_of r) c.args.plan.now m.links m.zero_texts size c.requires.plan
     (subst (λ body. IsMeasured r.order c.args.plan.now body m.links m.zero_texts) read c.in-Ok.ensures.measured)

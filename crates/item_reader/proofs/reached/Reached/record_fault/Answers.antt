@@ -13,23 +13,31 @@ returns-then-has_target c =
     let r = c.args.self.now in
     let p = c.args.placed in
     let target : is_target_kind (kind_here r) ≡ true = ap is_target_kind (sym c.requires.kind) ∙ c.requires.target in
-    let twin = target-twin (frame_of r) (structure (here_of r)) c.into.result p.instance (class-here r p c.requires.here ∙ sym c.into.ensures) (instance-here r p c.requires.here) in
-    ap Some c.fault.ensures ∙ sym (record-twice (here_of r) target (sym twin ∙ sym c.has_target.ensures ∙ c.if-has_target.true))
+    let twin = target-twin (frame_of r) (structure (here_of r)) c.into.result p.instance (class-here r p c.requires.here
+    ∙ sym c.into.ensures) (instance-here r p c.requires.here) in
+    ap Some c.fault.ensures ∙ sym
+    (record-twice (here_of r) target (sym twin ∙ sym c.has_target.ensures ∙ c.if-has_target.true))
 
 pub returns-then-is_second_header : goal.returns-then-is_second_header
 returns-then-is_second_header c =
     let r = c.args.self.now in
     let p = c.args.placed in
     let target : is_target_kind (kind_here r) ≡ true = ap is_target_kind (sym c.requires.kind) ∙ c.requires.target in
-    let twin = target-twin (frame_of r) (structure (here_of r)) c.into.result p.instance (class-here r p c.requires.here ∙ sym c.into.ensures) (instance-here r p c.requires.here) in
-    let header = ap (λ k. is_header_kind k && has_header r.dictionary (frame_of r)) (sym c.requires.kind) ∙ sym c.is_second_header.ensures ∙ c.if-is_second_header.true in
-    ap Some c.fault-then-is_second_header.ensures ∙ sym (header-twice (here_of r) target (sym twin ∙ sym c.has_target.ensures ∙ c.if-has_target.false) header)
+    let twin = target-twin (frame_of r) (structure (here_of r)) c.into.result p.instance (class-here r p c.requires.here
+    ∙ sym c.into.ensures) (instance-here r p c.requires.here) in
+    let header = ap (λ k. is_header_kind k && has_header r.dictionary (frame_of r)) (sym c.requires.kind)
+    ∙ sym c.is_second_header.ensures ∙ c.if-is_second_header.true in
+    ap Some c.fault-then-is_second_header.ensures
+    ∙ sym (header-twice (here_of r) target (sym twin ∙ sym c.has_target.ensures ∙ c.if-has_target.false) header)
 
 pub returns-else-is_second_header : goal.returns-else-is_second_header
 returns-else-is_second_header c =
     let r = c.args.self.now in
     let p = c.args.placed in
     let target : is_target_kind (kind_here r) ≡ true = ap is_target_kind (sym c.requires.kind) ∙ c.requires.target in
-    let twin = target-twin (frame_of r) (structure (here_of r)) c.into.result p.instance (class-here r p c.requires.here ∙ sym c.into.ensures) (instance-here r p c.requires.here) in
-    let header = ap (λ k. is_header_kind k && has_header r.dictionary (frame_of r)) (sym c.requires.kind) ∙ sym c.is_second_header.ensures ∙ c.if-is_second_header.false in
-    c.place_fault.ensures ∙ sym (record-new (here_of r) target (sym twin ∙ sym c.has_target.ensures ∙ c.if-has_target.false) header)
+    let twin = target-twin (frame_of r) (structure (here_of r)) c.into.result p.instance (class-here r p c.requires.here
+    ∙ sym c.into.ensures) (instance-here r p c.requires.here) in
+    let header = ap (λ k. is_header_kind k && has_header r.dictionary (frame_of r)) (sym c.requires.kind)
+    ∙ sym c.is_second_header.ensures ∙ c.if-is_second_header.false in
+    c.place_fault.ensures ∙ sym
+    (record-new (here_of r) target (sym twin ∙ sym c.has_target.ensures ∙ c.if-has_target.false) header)

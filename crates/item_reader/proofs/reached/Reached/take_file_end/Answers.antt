@@ -30,4 +30,5 @@ pub returns-clause-answers : goal.returns-clause-answers
 returns-clause-answers c =
     let r = c.args.self.now in
     let none : first_here closing_reasons r ≡ None = sym c.closing_fault.ensures ∙ c.in_default.is in
-    takes-file_end r c.args.end c.table_seek-seek.result c.requires.sound c.requires.open c.requires.here c.requires.kind c.in_ok-read.ensures.ok.none none c.table_seek-seek.ensures
+    takes-file_end r c.args.end c.table_seek-seek.result c.requires.sound c.requires.open c.requires.here
+    c.requires.kind c.in_ok-read.ensures.ok.none none c.table_seek-seek.ensures

@@ -15,7 +15,8 @@ returns-in_err-weigh-clause-answers c =
     passed-on r r c.from_residual.result (errors.Fault c.in_err-weigh.field-0.0) c.from_residual.ensures.1
     (fault-kind r p c.requires.open c.requires.here
     ∙ frame_end-parts (here_of r) (fits-here r p c.requires.here) c.requires.kind
-    ∙ first_of-front weighing_reasons frame_end_reasons (here_of r) c.in_err-weigh.field-0.0 c.in_err-weigh.ensures.fault)
+    ∙ first_of-front weighing_reasons frame_end_reasons (here_of r) c.in_err-weigh.field-0.0
+    c.in_err-weigh.ensures.fault)
 
 pub returns-in-Some-clause-answers : goal.returns-in-Some-clause-answers
 returns-in-Some-clause-answers c =
@@ -33,4 +34,5 @@ returns-clause-answers c =
     let r = c.args.self.now in
     let none : first_here frame_end_reasons r ≡ None = sym c.in_ok-fault.ensures ∙ c.in_default.is in
     let cleared : Reached = record r { frame = c.clear.new.self } in
-    takes-frame_end r c.args.placed c.in_ok-weigh.field-0 cleared c.requires.sound c.requires.open c.requires.here c.requires.kind c.in_ok-weigh.ensures.ok none c.clear.ensures.items
+    takes-frame_end r c.args.placed c.in_ok-weigh.field-0 cleared c.requires.sound c.requires.open c.requires.here
+    c.requires.kind c.in_ok-weigh.ensures.ok none c.clear.ensures.items

@@ -19,7 +19,8 @@ returns-in_err-weight-clause-answers c =
     passed-on r r c.from_residual.result (errors.Fault c.in_err-weight.field-0.0) c.from_residual.ensures.1
     (fault-kind r p c.requires.open c.requires.here
     ∙ record-parts (here_of r) (fits-here r p c.requires.here) target
-    ∙ first_of-front weighing_reasons record_reasons (here_of r) c.in_err-weight.field-0.0 c.in_err-weight.ensures.fault)
+    ∙ first_of-front weighing_reasons record_reasons (here_of r) c.in_err-weight.field-0.0
+    c.in_err-weight.ensures.fault)
 
 pub returns-in-Some-clause-answers : goal.returns-in-Some-clause-answers
 returns-in-Some-clause-answers c =
@@ -38,4 +39,7 @@ returns-clause-answers c =
     let target : is_target_kind (kind_here r) ≡ true = ap is_target_kind (sym c.requires.kind) ∙ c.requires.target in
     let none : first_here record_reasons r ≡ None = sym c.record_fault.ensures ∙ c.in_default.is in
     let pushed : Reached = record r { frame = c.push.new.self } in
-    takes-record r c.args.placed c.in_ok-weight.weight c.len-node.result pushed c.requires.sound c.requires.open c.requires.here target c.in_ok-weight.ensures.ok none (omega (arith, c.len-node.ensures)) (c.push.ensures.items ∙ cond-true (is_ok c.push.result) (r.frame.items ++ c.args.placed.at ∷ []) r.frame.items (ok-unless c.push.result (sym c.is_err.ensures.value ∙ c.if-is_err.false)))
+    takes-record r c.args.placed c.in_ok-weight.weight c.len-node.result pushed c.requires.sound c.requires.open
+    c.requires.here target c.in_ok-weight.ensures.ok none (omega (arith, c.len-node.ensures)) (c.push.ensures.items
+    ∙ cond-true (is_ok c.push.result) (r.frame.items ++ c.args.placed.at ∷ []) r.frame.items
+    (ok-unless c.push.result (sym c.is_err.ensures.value ∙ c.if-is_err.false)))

@@ -10,5 +10,7 @@ pub returns-in_err-read-clause-fault : goal.returns-in_err-read-clause-fault
 returns-in_err-read-clause-fault c =
     let r = c.args.self.now in
     let told = told-here r c.args.placed c.requires.here in
-    passed-on c.from_residual.result c.in_err-read.field-0.0 (λ fault. first_here weighing_reasons r ≡ Some fault) c.from_residual.ensures.1
-    (weigh-unread (here_of r) c.in_err-read.field-0.0 (whole-here r c.args.placed c.requires.here) c.requires.kind (omega (arith, told)) c.in_err-read.ensures.fault)
+    passed-on c.from_residual.result c.in_err-read.field-0.0 (λ fault. first_here weighing_reasons r ≡ Some fault)
+    c.from_residual.ensures.1
+    (weigh-unread (here_of r) c.in_err-read.field-0.0 (whole-here r c.args.placed c.requires.here) c.requires.kind
+    (omega (arith, told)) c.in_err-read.ensures.fault)

@@ -27,10 +27,13 @@ returns-clause-reads g c =
       source = source-draws old new c.args.slot c.in_ok-file.ensures.draws c.requires.source;
       read = λ none file told.
           let was = sym (file-draws old new c.args.slot c.in_ok-file.ensures.draws) ∙ told in
-          let taken : c.in_ok-file.file.items ≡ file = whole old c.args.slot c.in_ok-file.file.items file c.requires.beginning c.in_ok-file.ensures.bytes was in
-          begun file c.as_slice.result.now c.in_ok-order.order _ (c.as_slice.ensures.value ∙ taken) c.in_ok-order.ensures.size c.in_ok-order.ensures.order c.in_ok-new.ensures.file.0 c.in_ok-new.ensures.before
+          let taken : c.in_ok-file.file.items ≡ file =
+          whole old c.args.slot c.in_ok-file.file.items file c.requires.beginning c.in_ok-file.ensures.bytes was in
+          begun file c.as_slice.result.now c.in_ok-order.order _ (c.as_slice.ensures.value ∙ taken)
+          c.in_ok-order.ensures.size c.in_ok-order.ensures.order c.in_ok-new.ensures.file.0 c.in_ok-new.ensures.before
           (ap (λ f. f.items) c.in_ok-new.ensures.file.1 ∙ sym c.as_slice.ensures.value);
     }
 
 pub invariant_of-result : goal.invariant_of-result
-invariant_of-result g c = (λ none. keeps_begun _ c.in_ok-new.ensures.sound c.in_ok-new.ensures.before, omega arith, omega arith)
+invariant_of-result g c =
+    (λ none. keeps_begun _ c.in_ok-new.ensures.sound c.in_ok-new.ensures.before, omega arith, omega arith)
