@@ -1,5 +1,6 @@
 mod Counting
 mod Files
+mod Giving
 mod Kept
 mod MemCalls
 mod Untold

@@ -1,7 +1,9 @@
 -- What callers know of a shelf: its counts, its slots and, where it tells them, its files. Each call of
 -- the trait has one relation between what is known before and after, and a step by several calls has
 -- the same relation.
-use Rattle.std.specs.Prelude.{◌≡◌, ℕ, zero, suc, ◌+◌, ◌-◌, ◌<◌, ◌≤◌, Bool, true, false, IsTrue, List, [], ◌∷◌, ◌++◌, length, map, take, drop, slice_get, Option, Some, None, is_none, option_map, option_and_then, if◌then◌else◌}
+use Rattle.std.specs.Prelude.{◌≡◌, ℕ, zero, suc, ◌+◌, ◌-◌, ◌<◌, ◌≤◌, Bool, true, false, IsTrue, List, []}
+use Rattle.std.specs.Prelude.{◌∷◌, ◌++◌, length, map, take, drop, slice_get, Option, Some, None, is_none}
+use Rattle.std.specs.Prelude.{option_map, option_and_then, if◌then◌else◌}
 use Rattle.std.specs.Option.{option_map_or}
 use Rattle.std.specs.Str.{bytes_eq}
 use Rattle.frame_outside.specs.Counts.{counted, counted_by}
@@ -88,12 +90,16 @@ pub record Passes (old new : Outside) (slot n : ℕ) : Type 0 where
 -- the n bytes at the front of `into` are the next ones of the slot, and n is 0 only at the end or for no room
 pub record Gives (old : Outside) (slot n : ℕ) (into : List ℕ) : Type 0 where
   pub bytes : Told (reading_at old.slots slot) (λ reading. take n into ≡ take n (left_of reading))
-  pub end : n ≡ 0 → 0 < length into → Told (reading_at old.slots slot) (λ reading. length reading.opened ≤ reading.at)
+  pub end : n ≡ 0 → 0 < length into → Told (reading_at old.slots slot)
+      (λ reading. length reading.opened ≤ reading.at)
 
 -- what a target slot has written once the file of that name is no longer its own
 abbrev pub writing_released : List ℕ → Writing → Writing
 writing_released name writing =
-    record { written = writing.written; name = option_and_then (λ held. if bytes_eq name held then None else Some held) writing.name }
+    record {
+      written = writing.written;
+      name = option_and_then (λ held. if bytes_eq name held then None else Some held) writing.name;
+    }
 
 -- a slot once the file of that name has come from elsewhere
 abbrev pub slot_released : List ℕ → Slot → Slot
@@ -125,7 +131,8 @@ pub record Opens (old new : Outside) (name : List ℕ) (slot : ℕ) : Type 0 whe
 pub record Refuses (old new : Outside) (name : List ℕ) : Type 0 where
   pub faults : old.faults ≤ new.faults
   pub misses : old.misses ≤ new.misses
-  pub missed : Told old.files (λ held. new.misses ≡ (if is_none (held name) then counted old.misses else old.misses))
+  pub missed : Told old.files (λ held. new.misses
+      ≡ (if is_none (held name) then counted old.misses else old.misses))
   pub taken : new.taken ≡ old.taken
   pub slots : new.slots ≡ old.slots
   pub files : new.files ≡ old.files
@@ -138,7 +145,8 @@ pub record HandsOut (old new : Outside) (n : ℕ) : Type 0 where
   pub slots : new.slots ≡ old.slots
   pub files : new.files ≡ old.files
 
--- the n bytes at the front of `into` are those from the place `at` on of what the slot was opened on, and n is 0 only at or past the end or for no room
+-- the n bytes at the front of `into` are those from the place `at` on of what the slot was opened on, and
+-- n is 0 only at or past the end or for no room
 pub record GivesFrom (old : Outside) (slot at n : ℕ) (into : List ℕ) : Type 0 where
   pub within : Told (reading_at old.slots slot) (λ reading. n ≤ length reading.opened - at)
   pub bytes : Told (reading_at old.slots slot) (λ reading. take n into ≡ take n (drop at reading.opened))
@@ -186,7 +194,8 @@ holding name bytes files q = if bytes_eq name q then Some bytes else files q
 -- the files once a slot has written: the file that it still writes is all that it wrote
 abbrev pub files_written : Option Writing → Option Files → Option Files
 files_written None files = files
-files_written (Some writing) files = option_map_or (λ name. option_map (holding name writing.written) files) writing.name files
+files_written (Some writing) files = option_map_or (λ name. option_map (holding name writing.written) files)
+    writing.name files
 
 -- a slot wrote these bytes at its end, and nothing else changed beside the count of faults
 pub record Writes (old new : Outside) (slot : ℕ) (bytes : List ℕ) : Type 0 where
@@ -206,7 +215,8 @@ pub record WritesPart (old new : Outside) (slot : ℕ) (bytes : List ℕ) : Type
 abbrev pub writing_begun : Option Files → List ℕ → Option Writing
 writing_begun files name = option_map (λ _. record { written = []; name = Some name }) files
 
--- the file of that name was made or emptied, a new slot writes it and no other does, and nothing else changed beside the count of faults
+-- the file of that name was made or emptied, a new slot writes it and no other does, and nothing else
+-- changed beside the count of faults
 pub record Makes (old new : Outside) (name : List ℕ) (slot : ℕ) : Type 0 where
   pub faults : old.faults ≤ new.faults
   pub misses : new.misses ≡ old.misses
@@ -226,7 +236,14 @@ untold_slots is_written open_files = map (λ open_file. untold_slot (is_written 
 
 -- a shelf that tells nothing, with a slot for each open file
 abbrev pub untold : {A : Type 0} → (A → Bool) → ℕ → ℕ → List A → Outside
-untold is_written faults taken open_files = record { faults = faults; misses = 0; taken = taken; slots = untold_slots is_written open_files; files = None }
+untold is_written faults taken open_files =
+    record {
+      faults = faults;
+      misses = 0;
+      taken = taken;
+      slots = untold_slots is_written open_files;
+      files = None;
+    }
 
 -- a shelf that tells nothing and has done nothing
 abbrev pub begun : Outside

@@ -10,7 +10,8 @@ use Rattle.frame_outside.specs.Shelf.{Slot, Source, Target}
 abbrev pub written_by : Slot → List ℕ → Option (List ℕ)
 written_by (Source reading) name = None
 written_by (Target None) name = None
-written_by (Target (Some writing)) name = if option_map_or (bytes_eq name) writing.name false then Some writing.written else None
+written_by (Target (Some writing)) name =
+    if option_map_or (bytes_eq name) writing.name false then Some writing.written else None
 
 -- the same of the first slot that still writes it
 abbrev pub written_under : List Slot → List ℕ → Option (List ℕ)
@@ -20,8 +21,10 @@ written_under (first ∷ others) name = option_or (written_by first name) (writt
 -- no two slots still write the file of one name
 abbrev pub AreApart : List Slot → Type 0
 AreApart [] = ⊤
-AreApart (first ∷ others) = ((name : List ℕ) → IsSome (written_by first name) → IsNone (written_under others name)) × AreApart others
+AreApart (first ∷ others) = ((name : List ℕ) → IsSome (written_by first name) →
+    IsNone (written_under others name)) × AreApart others
 
 pub AreApart-prop : (slots : List Slot) → IsProp (AreApart slots)
 AreApart-prop [] = Unit-prop
-AreApart-prop (first ∷ others) = ×_prop (Π_prop (λ name. Π_prop (λ some. Bool-set _ _))) (AreApart-prop others)
+AreApart-prop (first ∷ others) = ×_prop (Π_prop (λ name. Π_prop (λ some. Bool-set _ _)))
+    (AreApart-prop others)

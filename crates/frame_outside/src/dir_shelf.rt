@@ -5,10 +5,13 @@ mod opened;
 mod opening;
 mod source;
 
-ghost use Rattle.std.specs.Prelude.{◌≡◌, ◌≤◌, ◌^◌, length, map, [], IfOk, OnOk, OnErr, IsErrOf, None, true, false, max, min, ◌+◌};
+ghost use Rattle.std.specs.Prelude.{◌≡◌, ◌≤◌, ◌^◌, length, map, [], IfOk, OnOk, OnErr, IsErrOf};
+ghost use Rattle.std.specs.Prelude.{None, true, false, max, min, ◌+◌};
 ghost use Rattle.frame_outside.specs.Counts.{Rose, counted, counted_by};
 ghost use Rattle.frame_outside.specs.Opened.{is_written};
-ghost use Rattle.frame_outside.specs.Shelf.{Outside, Source, Told, IsSource, IsTarget, Opens, Refuses, Makes, Passes, Gives, HandsOut, GivesFrom, Writes, WritesPart, reading_at, untold, begun};
+ghost use Rattle.frame_outside.specs.Shelf.{Outside, Source, Told, IsSource, IsTarget, Opens};
+ghost use Rattle.frame_outside.specs.Shelf.{Refuses, Makes, Passes, Gives, HandsOut, GivesFrom};
+ghost use Rattle.frame_outside.specs.Shelf.{Writes, WritesPart, reading_at, untold, begun};
 
 use crate::traits::{Failed, Shelf, ShelfError};
 use opened::Opened;

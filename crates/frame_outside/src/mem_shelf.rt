@@ -4,12 +4,16 @@ mod reader;
 mod slot;
 mod writer;
 
-ghost use Rattle.std.specs.Prelude.{◌≡◌, ◌≢◌, ◌⊎◌, ◌+◌, ◌-◌, ◌^◌, ◌<◌, ◌≤◌, ◌↔◌, ℕ, length, take, [], ◌∷◌, ◌++◌, List, map, IfOk, OnOk, OnErr, IsErr, IsErrOf, IsTrue, Some, None, option_copied, if◌then◌else◌};
+ghost use Rattle.std.specs.Prelude.{◌≡◌, ◌≢◌, ◌⊎◌, ◌+◌, ◌-◌, ◌^◌, ◌<◌, ◌≤◌, ◌↔◌, ℕ, length, take};
+ghost use Rattle.std.specs.Prelude.{[], ◌∷◌, ◌++◌, List, map, IfOk, OnOk, OnErr, IsErr, IsErrOf};
+ghost use Rattle.std.specs.Prelude.{IsTrue, Some, None, option_copied, if◌then◌else◌};
 ghost use Rattle.std.specs.Str.{bytes_eq};
 ghost use Rattle.std.specs.Vec.{vec_len, vec_capacity};
 ghost use Rattle.frame_outside.specs.Calls.{faults_after};
 ghost use Rattle.frame_outside.specs.Counts.{counted, Rose};
-ghost use Rattle.frame_outside.specs.Shelf.{Outside, Told, IsSource, IsTarget, Opens, Refuses, Makes, Passes, Gives, HandsOut, GivesFrom, Writes, WritesPart, reading_at, released};
+ghost use Rattle.frame_outside.specs.Shelf.{Outside, Told, IsSource, IsTarget, Opens, Refuses};
+ghost use Rattle.frame_outside.specs.Shelf.{Makes, Passes, Gives, HandsOut, GivesFrom, Writes};
+ghost use Rattle.frame_outside.specs.Shelf.{WritesPart, reading_at, released};
 ghost use Rattle.frame_outside.specs.Written.{AreApart, AreApart-prop};
 ghost use Rattle.frame_outside.specs.MemSlot.{slot_of};
 
@@ -36,7 +40,8 @@ pub struct MemShelf {
 }
 
 impl MemShelf {
-    ghost use Rattle.frame_outside.specs.MemShelf.{outside_of, file_of, fails_next, failing_calls, calls_made, most_given, SameButContent};
+    ghost use Rattle.frame_outside.specs.MemShelf.{outside_of, file_of, fails_next, failing_calls};
+    ghost use Rattle.frame_outside.specs.MemShelf.{calls_made, most_given, SameButContent};
 
     /// A shelf that holds no file, of which no call fails and each gives all that there is room for.
     pub fn new(alloc: Global) -> Self
@@ -63,8 +68,10 @@ impl MemShelf {
     /// Holds these bytes under that name, in place of what was held, for slots given from now on.
     /// No slot given before writes the file of that name any more.
     pub fn with_file(&mut self, name: &str, bytes: &[u8]) -> Result<(), AllocError>
-        ensures ok { OnOk result ((q : List ℕ) → file_of self.new q ≡ (if bytes_eq name.now q then Some bytes.now else file_of self.old q)) }
-        ensures released { OnOk result ((outside_of self.new).slots ≡ released name.now (outside_of self.old).slots) }
+        ensures ok { OnOk result ((q : List ℕ) →
+            file_of self.new q ≡ (if bytes_eq name.now q then Some bytes.now else file_of self.old q)) }
+        ensures released { OnOk result
+            ((outside_of self.new).slots ≡ released name.now (outside_of self.old).slots) }
         ensures err { OnErr result ((q : List ℕ) → file_of self.new q ≡ file_of self.old q) }
         ensures kept { OnErr result ((outside_of self.new).slots ≡ (outside_of self.old).slots) }
         ensures others { SameButContent self.old self.new }
@@ -122,21 +129,30 @@ impl MemShelf {
 }
 
 impl Shelf for MemShelf {
-    ghost use Rattle.frame_outside.specs.MemShelf.{outside_of, file_of, fails_next, failing_calls, calls_made, most_given, CountsCall};
+    ghost use Rattle.frame_outside.specs.MemShelf.{outside_of, file_of, fails_next, failing_calls};
+    ghost use Rattle.frame_outside.specs.MemShelf.{calls_made, most_given, CountsCall};
 
     ghost outside = { outside_of };
 
     /// Fails exactly where the number of this call is listed, the name is not held, or all slot
     /// numbers are given.
     fn source(&mut self, alloc: Global, name: &str) -> Result<u32, ShelfError>
-        ensures ok { IfOk result (λ slot. Opens (outside_of self.old) (outside_of self.new) name.now slot) }
-        ensures refused { OnErr result (Refuses (outside_of self.old) (outside_of self.new) name.now) }
-        ensures missing { Told (outside_of self.old).files (λ held. held name.now ≡ None → IsErrOf result ShelfError.Failed) }
-        ensures full { 2 ^ 32 ≤ length (outside_of self.old).slots → IsErrOf result ShelfError.Failed }
-        ensures failed { IsErrOf result ShelfError.Failed → Rose (outside_of self.old).faults (outside_of self.new).faults }
-        ensures fails { IsErrOf result ShelfError.Failed ↔ (IsTrue (fails_next self.old) ⊎ (file_of self.old name.now ≡ None) ⊎ (2 ^ 32 ≤ length (outside_of self.old).slots)) }
+        ensures ok { IfOk result (λ slot. Opens (outside_of self.old) (outside_of self.new) name.now
+            slot) }
+        ensures refused { OnErr result
+            (Refuses (outside_of self.old) (outside_of self.new) name.now) }
+        ensures missing { Told (outside_of self.old).files
+            (λ held. held name.now ≡ None → IsErrOf result ShelfError.Failed) }
+        ensures full { 2 ^ 32 ≤ length (outside_of self.old).slots →
+            IsErrOf result ShelfError.Failed }
+        ensures failed { IsErrOf result ShelfError.Failed →
+            Rose (outside_of self.old).faults (outside_of self.new).faults }
+        ensures fails { IsErrOf result ShelfError.Failed ↔
+            (IsTrue (fails_next self.old) ⊎ (file_of self.old name.now ≡ None)
+            ⊎ (2 ^ 32 ≤ length (outside_of self.old).slots)) }
         ensures kept { CountsCall self.old self.new }
-        ensures faults { (outside_of self.new).faults ≡ faults_after result (outside_of self.old).faults }
+        ensures faults { (outside_of self.new).faults
+            ≡ faults_after result (outside_of self.old).faults }
     {
         let fails = self.calls.count_one();
         let Some(held) = self.file(name) else {
@@ -165,14 +181,17 @@ impl Shelf for MemShelf {
     fn take(&mut self, slot: u32, into: &mut [u8]) -> Result<usize, Failed>
         requires { IsSource (outside_of self.old).slots slot }
         ensures room { IfOk result (λ n. n ≤ length into.new) }
-        ensures passes { IfOk result (λ n. Passes (outside_of self.old) (outside_of self.new) slot n) }
+        ensures passes { IfOk result
+            (λ n. Passes (outside_of self.old) (outside_of self.new) slot n) }
         ensures gives { IfOk result (λ n. Gives (outside_of self.old) slot n into.new) }
         ensures refused { OnErr result (Passes (outside_of self.old) (outside_of self.new) slot 0) }
-        ensures failed { OnErr result (Rose (outside_of self.old).faults (outside_of self.new).faults) }
+        ensures failed { OnErr result
+            (Rose (outside_of self.old).faults (outside_of self.new).faults) }
         ensures fails { IsErr result ↔ IsTrue (fails_next self.old) }
         ensures most { IfOk result (λ n. n ≤ most_given self.old) }
         ensures kept { CountsCall self.old self.new }
-        ensures fault { OnErr result ((outside_of self.new).faults ≡ counted (outside_of self.old).faults) }
+        ensures fault { OnErr result
+            ((outside_of self.new).faults ≡ counted (outside_of self.old).faults) }
         ensures no_fault { OnOk result ((outside_of self.new).faults ≡ (outside_of self.old).faults) }
     {
         if self.calls.count_one() {
@@ -187,12 +206,15 @@ impl Shelf for MemShelf {
     /// Fails exactly where the number of this call is listed.
     fn size(&mut self, slot: u32) -> Result<u64, Failed>
         requires { IsSource (outside_of self.old).slots slot }
-        ensures size { IfOk result (λ n. Told (reading_at (outside_of self.old).slots slot) (λ reading. n ≡ length reading.opened)) }
+        ensures size { IfOk result (λ n. Told (reading_at (outside_of self.old).slots slot)
+            (λ reading. n ≡ length reading.opened)) }
         ensures kept { HandsOut (outside_of self.old) (outside_of self.new) 0 }
-        ensures failed { OnErr result (Rose (outside_of self.old).faults (outside_of self.new).faults) }
+        ensures failed { OnErr result
+            (Rose (outside_of self.old).faults (outside_of self.new).faults) }
         ensures fails { IsErr result ↔ IsTrue (fails_next self.old) }
         ensures calls { CountsCall self.old self.new }
-        ensures fault { OnErr result ((outside_of self.new).faults ≡ counted (outside_of self.old).faults) }
+        ensures fault { OnErr result
+            ((outside_of self.new).faults ≡ counted (outside_of self.old).faults) }
         ensures no_fault { OnOk result ((outside_of self.new).faults ≡ (outside_of self.old).faults) }
     {
         if self.calls.count_one() {
@@ -206,14 +228,17 @@ impl Shelf for MemShelf {
     fn read_at(&mut self, slot: u32, at: u64, into: &mut [u8]) -> Result<usize, Failed>
         requires { IsSource (outside_of self.old).slots slot }
         ensures room { IfOk result (λ n. n ≤ length into.new) }
-        ensures hands_out { IfOk result (λ n. HandsOut (outside_of self.old) (outside_of self.new) n) }
+        ensures hands_out { IfOk result
+            (λ n. HandsOut (outside_of self.old) (outside_of self.new) n) }
         ensures gives { IfOk result (λ n. GivesFrom (outside_of self.old) slot at n into.new) }
         ensures refused { OnErr result (HandsOut (outside_of self.old) (outside_of self.new) 0) }
-        ensures failed { OnErr result (Rose (outside_of self.old).faults (outside_of self.new).faults) }
+        ensures failed { OnErr result
+            (Rose (outside_of self.old).faults (outside_of self.new).faults) }
         ensures fails { IsErr result ↔ IsTrue (fails_next self.old) }
         ensures most { IfOk result (λ n. n ≤ most_given self.old) }
         ensures kept { CountsCall self.old self.new }
-        ensures fault { OnErr result ((outside_of self.new).faults ≡ counted (outside_of self.old).faults) }
+        ensures fault { OnErr result
+            ((outside_of self.new).faults ≡ counted (outside_of self.old).faults) }
         ensures no_fault { OnOk result ((outside_of self.new).faults ≡ (outside_of self.old).faults) }
     {
         if self.calls.count_one() {
@@ -227,13 +252,18 @@ impl Shelf for MemShelf {
 
     /// Fails exactly where the number of this call is listed, or all slot numbers are given.
     fn target(&mut self, alloc: Global, name: &str) -> Result<u32, ShelfError>
-        ensures ok { IfOk result (λ slot. Makes (outside_of self.old) (outside_of self.new) name.now slot) }
+        ensures ok { IfOk result (λ slot. Makes (outside_of self.old) (outside_of self.new) name.now
+            slot) }
         ensures refused { OnErr result (HandsOut (outside_of self.old) (outside_of self.new) 0) }
-        ensures full { 2 ^ 32 ≤ length (outside_of self.old).slots → IsErrOf result ShelfError.Failed }
-        ensures failed { IsErrOf result ShelfError.Failed → Rose (outside_of self.old).faults (outside_of self.new).faults }
-        ensures fails { IsErrOf result ShelfError.Failed ↔ (IsTrue (fails_next self.old) ⊎ (2 ^ 32 ≤ length (outside_of self.old).slots)) }
+        ensures full { 2 ^ 32 ≤ length (outside_of self.old).slots →
+            IsErrOf result ShelfError.Failed }
+        ensures failed { IsErrOf result ShelfError.Failed →
+            Rose (outside_of self.old).faults (outside_of self.new).faults }
+        ensures fails { IsErrOf result ShelfError.Failed ↔
+            (IsTrue (fails_next self.old) ⊎ (2 ^ 32 ≤ length (outside_of self.old).slots)) }
         ensures kept { CountsCall self.old self.new }
-        ensures faults { (outside_of self.new).faults ≡ faults_after result (outside_of self.old).faults }
+        ensures faults { (outside_of self.new).faults
+            ≡ faults_after result (outside_of self.old).faults }
     {
         let fails = self.calls.count_one();
         match u32::try_from(self.slots.len()) {
@@ -259,12 +289,15 @@ impl Shelf for MemShelf {
     fn put(&mut self, _alloc: Global, slot: u32, piece: &[u8]) -> Result<(), ShelfError>
         requires { IsTarget (outside_of self.old).slots slot }
         ensures ok { OnOk result (Writes (outside_of self.old) (outside_of self.new) slot piece.now) }
-        ensures part { IsErrOf result ShelfError.Failed → WritesPart (outside_of self.old) (outside_of self.new) slot piece.now }
+        ensures part { IsErrOf result ShelfError.Failed →
+            WritesPart (outside_of self.old) (outside_of self.new) slot piece.now }
         ensures none { OnErr result (HandsOut (outside_of self.old) (outside_of self.new) 0) }
-        ensures failed { IsErrOf result ShelfError.Failed → Rose (outside_of self.old).faults (outside_of self.new).faults }
+        ensures failed { IsErrOf result ShelfError.Failed →
+            Rose (outside_of self.old).faults (outside_of self.new).faults }
         ensures fails { IsErrOf result ShelfError.Failed ↔ IsTrue (fails_next self.old) }
         ensures kept { CountsCall self.old self.new }
-        ensures faults { (outside_of self.new).faults ≡ faults_after result (outside_of self.old).faults }
+        ensures faults { (outside_of self.new).faults
+            ≡ faults_after result (outside_of self.old).faults }
     {
         if self.calls.count_one() {
             self.calls.count_fault();

@@ -7,6 +7,10 @@
 
 mod copying;
 
+ghost use Rattle.std.specs.Prelude.{◌≡◌, ◌≢◌, ◌⊎◌, length, map, codes, string_bytes};
+ghost use Rattle.frame_outside.specs.Sink.{Appends};
+ghost use Rattle.outside_trial.specs.Running.{CopiesAndPrints};
+
 use copying::copy_file;
 use frame_outside::{DirShelf, Shelf, ShelfError, Sink, StdSink};
 use std::alloc::{AllocError, Global};
@@ -40,7 +44,15 @@ fn words<R: std::rt::Env + AllocGlobal>(rt: &R) -> Result<Vec<String>, AllocErro
 }
 
 /// Copies by the words, prints, and gives the status.
-fn run<S: Shelf, O: Sink>(alloc: Global, words: &[String], shelf: &mut S, out: &mut O) -> u8 {
+fn run<S: Shelf, O: Sink>(alloc: Global, words: &[String], shelf: &mut S, out: &mut O) -> u8
+    ensures status { (result ≡ DONE) ⊎ ((result ≡ USAGE) ⊎ (result ≡ REFUSED)) }
+    ensures done { result ≡ DONE → CopiesAndPrints (map string_bytes words.now)
+        (S.outside shelf.old) (S.outside shelf.new) (O.output out.old) (O.output out.new) }
+    ensures usage { result ≡ USAGE → length words.now ≢ 2 }
+    ensures printed { result ≡ USAGE →
+        Appends (O.output out.old) (O.output out.new) (codes "usage\n") }
+    ensures other { length words.now ≢ 2 → S.outside shelf.new ≡ S.outside shelf.old }
+{
     let [from, to] = words else {
         return print(alloc, out, USAGE, "usage\n");
     };
@@ -53,8 +65,12 @@ fn run<S: Shelf, O: Sink>(alloc: Global, words: &[String], shelf: &mut S, out: &
     }
 }
 
-/// Prints a line, and gives that status.
-fn print<O: Sink>(alloc: Global, out: &mut O, status: u8, line: &str) -> u8 {
+/// Prints a line, and gives that status; `REFUSED` where the sink refuses.
+fn print<O: Sink>(alloc: Global, out: &mut O, status: u8, line: &str) -> u8
+    requires { status ≢ REFUSED }
+    ensures status { (result ≡ status) ⊎ (result ≡ REFUSED) }
+    ensures printed { result ≡ status → Appends (O.output out.old) (O.output out.new) line.now }
+{
     match out.put(alloc, line.as_bytes()) {
         Ok(()) => status,
         Err(_) => REFUSED,

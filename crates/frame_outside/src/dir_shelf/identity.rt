@@ -1,5 +1,8 @@
 //! What tells one file of the system from another.
 
+ghost use Rattle.std.specs.Prelude.{IsSome};
+ghost use Rattle.std.specs.Fs.{IsFile, file_type};
+
 use std::fs::Metadata;
 use std::os::unix::fs::{FileTypeExt, MetadataExt};
 
@@ -13,7 +16,9 @@ pub struct Identity {
 impl Identity {
     /// `None` where nothing that lies there can be destroyed by writing: a terminal, a pipe, a device
     /// such as the null device.
-    pub fn of(metadata: &Metadata) -> Option<Identity> {
+    pub fn of(metadata: &Metadata) -> Option<Identity>
+        ensures { IsFile (file_type metadata.now) → IsSome result }
+    {
         let kind = metadata.file_type();
         if kind.is_file() {
             Some(Identity {

@@ -1,9 +1,10 @@
 //! How files of the system are opened: past the standard streams, and none that a slot has in use.
 
-ghost use Rattle.std.specs.Prelude.{◌≡◌, IfOk, false, true};
+ghost use Rattle.std.specs.Prelude.{◌≡◌, map, string_bytes, Some, IfOk, false, true};
+ghost use Rattle.std.specs.List.{list_any};
 ghost use Rattle.std.specs.Vec.{vec_len, vec_capacity};
-ghost use Rattle.frame_outside.specs.Opened.{is_written};
-ghost use Rattle.frame_outside.specs.Shelf.{untold_slots};
+ghost use Rattle.frame_outside.specs.Opened.{is_written, identity_of, name_of, seen_of};
+ghost use Rattle.frame_outside.specs.Opened.{is_file_of, is_other_name_of};
 
 use super::identity::Identity;
 use super::opened::{Opened, Target};
@@ -22,18 +23,17 @@ pub fn open_source<R: Files>(
 where
     R::File: AsRawFd,
     ensures read { IfOk result (λ opened. is_written opened ≡ false) }
-    ensures slots { untold_slots is_written slots.new.items ≡ untold_slots is_written slots.old.items }
+    ensures apart { IfOk result
+        (λ opened. list_any (is_other_name_of (identity_of opened) name.now) slots.new.items ≡ false) }
+    ensures kept { map seen_of slots.new.items ≡ map seen_of slots.old.items }
 {
     let file = open_file(rt, slots, OpenOptions::new().read(true), name)?;
     let metadata = file.metadata()?;
     let identity = Identity::of(&metadata);
-    if slots
-        .iter()
-        .any(|slot| slot.is_written_as_another(identity, name))
-    {
+    if is_written_as_another(slots, identity, name) {
         return Err(io::Error::from(io::ErrorKind::ResourceBusy));
     }
-    Ok(Opened::Source(Source::new(file, &metadata)))
+    Ok(Opened::Source(Source::new(file, identity, &metadata)))
 }
 
 /// Opens the file of that name to be written from its beginning, made where it is missing. One that a
@@ -46,7 +46,10 @@ pub fn open_target<R: Files>(
 where
     R::File: AsRawFd,
     ensures written { IfOk result (λ opened. is_written opened ≡ true) }
-    ensures slots { untold_slots is_written slots.new.items ≡ untold_slots is_written slots.old.items }
+    ensures name { IfOk result (λ opened. name_of opened ≡ Some (string_bytes name)) }
+    ensures apart { IfOk result
+        (λ opened. list_any (is_file_of (identity_of opened)) slots.new.items ≡ false) }
+    ensures kept { map seen_of slots.new.items ≡ map seen_of slots.old.items }
     ensures len { vec_len slots.new ≡ vec_len slots.old }
     ensures capacity { vec_capacity slots.new ≡ vec_capacity slots.old }
 {
@@ -55,7 +58,7 @@ where
     let file = open_file(rt, slots, &how, name.as_str())?;
     let metadata = file.metadata()?;
     let identity = Identity::of(&metadata);
-    if slots.iter().any(|slot| slot.is(identity)) {
+    if is_in_use(slots, identity) {
         return Err(io::Error::from(io::ErrorKind::ResourceBusy));
     }
     if metadata.is_file() {
@@ -68,6 +71,34 @@ where
     }))
 }
 
+/// Whether a slot writes the file of that identity under another name.
+fn is_written_as_another<F: Drop>(
+    slots: &[Opened<F>],
+    identity: Option<Identity>,
+    name: &str,
+) -> bool
+    ensures { result ≡ list_any (is_other_name_of identity name.now) slots.now }
+{
+    for slot in slots {
+        if slot.is_written_as_another(identity, name) {
+            return true;
+        }
+    }
+    false
+}
+
+/// Whether a slot has the file of that identity.
+fn is_in_use<F: Drop>(slots: &[Opened<F>], identity: Option<Identity>) -> bool
+    ensures { result ≡ list_any (is_file_of identity) slots.now }
+{
+    for slot in slots {
+        if slot.is(identity) {
+            return true;
+        }
+    }
+    false
+}
+
 /// Opens a file. Where the system holds no more files open, those that were read to their end are
 /// given back to it first.
 fn open_file<R: Files>(
@@ -78,7 +109,7 @@ fn open_file<R: Files>(
 ) -> io::Result<R::File>
 where
     R::File: AsRawFd,
-    ensures slots { untold_slots is_written slots.new.items ≡ untold_slots is_written slots.old.items }
+    ensures kept { map seen_of slots.new.items ≡ map seen_of slots.old.items }
     ensures len { vec_len slots.new ≡ vec_len slots.old }
     ensures capacity { vec_capacity slots.new ≡ vec_capacity slots.old }
 {
@@ -116,7 +147,7 @@ fn is_for_too_many<F>(answer: &io::Result<F>) -> bool {
 
 /// Gives each file that was read to its end back to the system, and answers whether there was one.
 fn give_back_ended<F: Drop>(slots: &mut Vec<Opened<F>>) -> bool
-    ensures slots { untold_slots is_written slots.new.items ≡ untold_slots is_written slots.old.items }
+    ensures kept { map seen_of slots.new.items ≡ map seen_of slots.old.items }
     ensures len { vec_len slots.new ≡ vec_len slots.old }
     ensures capacity { vec_capacity slots.new ≡ vec_capacity slots.old }
 {

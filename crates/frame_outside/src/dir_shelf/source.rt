@@ -1,6 +1,7 @@
 //! A file of the system that is read.
 
-ghost use Rattle.std.specs.Prelude.{◌≤◌, length, IfOk};
+ghost use Rattle.std.specs.Prelude.{◌≡◌, ◌≤◌, length, Some, None, Ok, IfOk, IsErr, IsTrue, false};
+ghost use Rattle.std.specs.Fs.{IsFile, file_type, metadata_len};
 
 use super::identity::Identity;
 use std::fs::Metadata;
@@ -20,25 +21,41 @@ pub struct Source<F> {
 }
 
 impl<F: Drop> Source<F> {
-    pub fn new(file: F, metadata: &Metadata) -> Self {
+    ghost use Rattle.frame_outside.specs.Opened.{is_spent, source_given_back};
+
+    pub fn new(file: F, identity: Option<Identity>, metadata: &Metadata) -> Self
+        ensures file { result.file ≡ Some file }
+        ensures identity { result.identity ≡ identity }
+        ensures length { IsFile (file_type metadata.now) →
+            result.length ≡ Some (metadata_len metadata.now) }
+        ensures no_length { (IsFile (file_type metadata.now) → ⊥) → result.length ≡ None }
+        ensures ended { result.ended ≡ false }
+    {
         Source {
             file: Some(file),
-            identity: Identity::of(metadata),
+            identity,
             length: metadata.is_file().then_some(metadata.len()),
             ended: false,
         }
     }
 
-    pub fn identity(&self) -> Option<Identity> {
+    pub fn identity(&self) -> Option<Identity>
+        ensures { result ≡ self.now.identity }
+    {
         self.identity
     }
 
-    pub fn length(&self) -> Option<u64> {
+    pub fn length(&self) -> Option<u64>
+        ensures { result ≡ self.now.length }
+    {
         self.length
     }
 
     /// Gives the file back to the system where it was read to its end, and answers whether it did.
-    pub fn give_back(&mut self) -> bool {
+    pub fn give_back(&mut self) -> bool
+        ensures value { result ≡ is_spent self.old }
+        ensures after { self.new ≡ source_given_back self.old }
+    {
         self.ended && self.file.take().is_some()
     }
 }
@@ -46,7 +63,11 @@ impl<F: Drop> Source<F> {
 impl<F: Read> Source<F> {
     /// The next bytes; none of a file that was given back.
     pub fn take(&mut self, into: &mut [u8]) -> io::Result<usize>
-        ensures { IfOk result (λ n. n ≤ length into.new) }
+        ensures room { IfOk result (λ n. n ≤ length into.new) }
+        ensures gone { self.old.file ≡ None → result ≡ Ok 0 }
+        ensures ended { IfOk result (λ n. IsTrue self.new.ended → n ≡ 0) }
+        ensures identity { self.new.identity ≡ self.old.identity }
+        ensures length { self.new.length ≡ self.old.length }
     {
         let Some(file) = &mut self.file else {
             return Ok(0);
@@ -60,7 +81,8 @@ impl<F: Read> Source<F> {
 impl<F: FileExt> Source<F> {
     /// The bytes from a place on; an error where the file was given back.
     pub fn read_at(&self, at: u64, into: &mut [u8]) -> io::Result<usize>
-        ensures { IfOk result (λ n. n ≤ length into.new) }
+        ensures room { IfOk result (λ n. n ≤ length into.new) }
+        ensures gone { self.now.file ≡ None → IsErr result }
     {
         match &self.file {
             Some(file) => read_some_at(file, at, into),

@@ -5,4 +5,5 @@ use Rattle.frame_outside.proofs.Kept.{released_to}
 use Rattle.frame_outside.proofs.mem_shelf.release.Given as goal
 
 abbrev pub invariant-loop-slot : goal.invariant-loop-slot
-invariant-loop-slot l = map slot_of l.slot-items ≡ released_to l.name l.slot-index (map slot_of l.fn.slots.items)
+invariant-loop-slot l = map slot_of l.slot-items
+    ≡ released_to l.name l.slot-index (map slot_of l.fn.slots.items)
