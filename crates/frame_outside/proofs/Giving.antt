@@ -1,6 +1,5 @@
 -- Files that are given back to the system.
-use Rattle.std.proofs.Common.{◌≡◌, Bool, true, false, Option, None, if◌then◌else◌, refl}
-use Rattle.frame_outside.specs.declared.dir_shelf.source.Source.{Source}
+use Rattle.std.proofs.Common.{◌≡◌, Bool, true, false, None, if◌then◌else◌, refl}
 use Rattle.frame_outside.specs.declared.dir_shelf.opened.Opened.{Opened}
 use Rattle.frame_outside.specs.declared.dir_shelf.opened.Opened.TheVariants as opened
 use Rattle.frame_outside.specs.Opened.{seen_of, given_back}

@@ -1,16 +1,16 @@
 -- A file that was opened, made and copied.
-use Rattle.std.proofs.Common.{◌≡◌, ℕ, ◌^◌, ◌≤◌, List, [], ◌∷◌, ◌++◌, length, take}
+use Rattle.std.proofs.Common.{◌≡◌, ℕ, List, [], ◌∷◌, ◌++◌, length, take}
 use Rattle.std.proofs.Common.{Option, Some, None, option_map, Result, Ok, Err, IfOk, OnErr}
 use Rattle.std.proofs.Common.{inl, inr, refl, sym, ap, ◌∙◌, arith, length-take}
 use Rattle.frame_outside.specs.Counts.{Rose}
-use Rattle.frame_outside.specs.Shelf.{Files, Outside, Source, Target, Opens, Makes, HandsOut, wrote, pass}
+use Rattle.frame_outside.specs.Shelf.{Files, Outside, Source, Target, Opens, Makes, wrote, pass}
 use Rattle.frame_outside.specs.Shelf.{beginning, beginning_of, writing_begun, released, reading_at}
 use Rattle.frame_outside.specs.Shelf.{writing_at}
 use Rattle.frame_outside.specs.Shelf.{files_written, holding}
 use Rattle.frame_outside.proofs.Slots.{reading_at-given, reading_at-made, writing_at-made, writing_at-pass}
 use Rattle.frame_outside.proofs.Writing.{holding-holding, writing_at-write}
 use Rattle.outside_trial.specs.Copying.{Moves, CopiesAll, CopiesFront, CopiesTooMany, IsCopied}
-use Rattle.outside_trial.specs.Copying.{IsCopiedInPart, KeepsOthers, HoldsTooMany, TakesTooMany}
+use Rattle.outside_trial.specs.Copying.{KeepsOthers, TakesTooMany}
 
 -- a file was opened, and then that of another name was made
 pub record IsReady (first made : Outside) (from to : List ℕ) (source target : ℕ) : Type 0 where
