@@ -18,3 +18,4 @@ pub mod WrittenLemmas
 pub mod RespelledLemmas
 pub mod RewriteLemmas
 pub mod StepLemmas
+pub mod FixedLemmas

@@ -12,6 +12,7 @@ use Rattle.layout_plan.specs.declared.fields.Count.{Count}
 use Rattle.layout_plan.specs.declared.fields.Field.{Field}
 use Rattle.layout_plan.specs.declared.marks.Mark.{Mark}
 use Rattle.layout_plan.specs.Marks.{fixed_width, is_varied, numbers_where, past, marks_from, mark_from, first_mark, mark_of}
+use Rattle.layout_plan.proofs.FixedLemmas.{fixed-list}
 
 -- the width of a field, where it is fixed
 abbrev pub width_of : Field → Option ℕ
@@ -159,7 +160,7 @@ numbers_where-at such fields j i d lt is =
 pub record AreMarksSoFar (fields : List Field) (i : ℕ) (marks : List Mark) (mark : Mark) : Type 0 where
   pub marks_are : marks ++ marks_from mark (drop i fields) ≡ marks_from first_mark fields
   pub few : mark.varied ≤ i
-  pub small : mark.skip ≤ 16 * i
+  pub small : mark.skip ≤ 4096 * i
 
 -- the same of the numbers of the fields that are such
 pub record AreNumbersSoFar (such : Field → Bool) (fields : List Field) (i : ℕ) (numbers : List ℕ) : Type 0 where
@@ -172,8 +173,8 @@ noted such i f fs numbers = append_assoc numbers (cond (such f) (i ∷ []) []) (
     by true = refl
     by false = refl
 
--- a field of fixed width has 16 bytes at most
-pub fixed_width-small : (form : Form) (counts : List Count) → option_map_or (λ width. width) (fixed_width form counts) 0 ≤ 16
+-- a field of fixed width has 4,096 bytes at most
+pub fixed_width-small : (form : Form) (counts : List Count) → option_map_or (λ width. width) (fixed_width form counts) 0 ≤ 4096
 fixed_width-small (Number One) [] = omega arith
 fixed_width-small (Number Two) [] = omega arith
 fixed_width-small (Number Four) [] = omega arith
@@ -184,12 +185,13 @@ fixed_width-small (Pair Four) [] = omega arith
 fixed_width-small (Pair Eight) [] = omega arith
 fixed_width-small Text [] = omega arith
 fixed_width-small Link [] = omega arith
-fixed_width-small (Number width) (c ∷ cs) = omega arith
-fixed_width-small (Pair width) (c ∷ cs) = omega arith
-fixed_width-small Text (c ∷ cs) = omega arith
-fixed_width-small Link (c ∷ cs) = omega arith
+fixed_width-small form (c ∷ cs) = by (fixed_width form (c ∷ cs)) refl
+  where
+    by : (o : Option ℕ) → fixed_width form (c ∷ cs) ≡ o → option_map_or (λ width. width) o 0 ≤ 4096
+    by None is = omega arith
+    by (Some width) is = let s = fixed-list form c cs width is in omega (arith, s.same, s.few)
 
-past-small : (m : Mark) (width : Option ℕ) → option_map_or (λ width. width) width 0 ≤ 16 → (past m width).skip ≤ m.skip + 16
+past-small : (m : Mark) (width : Option ℕ) → option_map_or (λ width. width) width 0 ≤ 4096 → (past m width).skip ≤ m.skip + 4096
 past-small m (Some width) le = omega arith
 past-small m None le = omega arith
 

@@ -21,7 +21,8 @@ use Rattle.layout_plan.specs.declared.faults.BodyReason.TheVariants.{BodyShort, 
 use Rattle.layout_plan.specs.declared.spelled.Spelled.{Spelled}
 use Rattle.layout_plan.specs.Body.{value_length, text_length, extent_of, item_count}
 use Rattle.layout_plan.specs.Reading.{Found, and_then, found_map, number_in, pair_in, closed_text, text_of_length, text_in, link_in, items_in, single_in, listed_in, field_in}
-use Rattle.layout_plan.specs.Marks.{fixed_width, is_varied}
+use Rattle.layout_plan.specs.Marks.{product_by, numeral_of, item_size, fixed_width}
+use Rattle.layout_plan.proofs.FixedLemmas.{IsShortList, fixed-list, numeral-items}
 use Rattle.layout_plan.specs.Spelled.{IsSpelled, Tells, IsTextSpelled, TellsText, TellsLength, zero_texts_of}
 use Rattle.layout_plan.specs.Exact.{IsExact}
 use Rattle.record_values.specs.Spelling.{IsNumber, IsPair, IsText, IsLink}
@@ -95,6 +96,10 @@ fixed-items item size fixed zero = record {
 fixed-items item size fixed (suc n) =
     subst (IsFixed (items_in item (suc n))) (omega (arith, suc-mul n size)) (fixed-then item (λ x bytes. found_map (λ xs. x ∷ xs) (items_in item n bytes)) size (n * size) fixed (λ x. fixed-map (λ xs. x ∷ xs) (items_in item n) (n * size) (fixed-items item size fixed n)))
 
+-- how many items are found
+items-length : {X : Type 0} (item : List ℕ → Found X) (R : X → List ℕ → Type 0) → IsExact item R → (n : ℕ) (bytes rest : List ℕ) (xs : List X) → items_in item n bytes ≡ Ok (xs, rest) → length xs ≡ n
+items-length item R exact n bytes rest xs e = ((items_in-exact item R exact n).found bytes (xs, rest) e).2.count
+
 -- a field of fixed width has a value of this many bytes, whatever they are
 pub record IsFixedField (order : Order) (numbers : List ℕ) (form : Form) (counts : List Count) (width : ℕ) : Type 0 where
   pub enough : (bytes : List ℕ) → width ≤ length bytes → (v : Value) × (field_in order numbers form counts bytes ≡ Ok (v, drop width bytes)) × (value_length form v ≡ width)
@@ -117,10 +122,34 @@ fixed-field order numbers form [] n is = by form is
     by Link is =
         of_item (link_in order) value.Link Link 6 (fixed-link order) (λ bytes. refl) (λ link. refl) (same_Some 6 n is)
     by Text is = cc
-fixed-field order numbers (Number width) (c ∷ cs) n is = cc
-fixed-field order numbers (Pair width) (c ∷ cs) n is = cc
-fixed-field order numbers Text (c ∷ cs) n is = cc
-fixed-field order numbers Link (c ∷ cs) n is = cc
+fixed-field order numbers form (c ∷ cs) n is = listed form (fixed-list form c cs n is)
+  where
+    of_items : {X : Type 0} (item : List ℕ → Found X) (R : X → List ℕ → Type 0) → IsExact item R → (f : List X → Value) (form : Form) (size : ℕ) → IsFixed item size → ((m : ℕ) (bytes : List ℕ) → listed_in order form m bytes ≡ found_map f (items_in item m bytes)) → ((xs : List X) → value_length form (f xs) ≡ length xs * size) → item_size form ≡ Some size → IsShortList form (c ∷ cs) n → IsFixedField order numbers form (c ∷ cs) n
+    of_items item R exact f form size fixed reads long sized s =
+        let count = product_by numeral_of (c ∷ cs) in
+        let same : s.size ≡ size = same_Some s.size size (sym s.sized ∙ sized) in
+        let whole : count * size ≡ n = ap (λ k. count * k) (sym same) ∙ s.same in
+        let items = numeral-items numbers (c ∷ cs) s.all in
+        let all = fixed-items item size fixed count in
+        subst (IsFixedField order numbers form (c ∷ cs)) whole (record {
+          enough = λ bytes le. let e = all.enough bytes le in (f e.0, ap (λ m. listed_in order form m bytes) items ∙ reads count bytes ∙ ap (found_map f) e.1, long e.0 ∙ ap (λ k. k * size) (items-length item R exact count bytes (drop (count * size) bytes) e.0 e.1));
+          few = λ bytes lt. ap (λ m. listed_in order form m bytes) items ∙ reads count bytes ∙ ap (found_map f) (all.few bytes lt);
+        })
+
+    listed : (form : Form) → IsShortList form (c ∷ cs) n → IsFixedField order numbers form (c ∷ cs) n
+    listed (Number One) s =
+        of_items (number_in order One) (IsNumber order One) (number_in-exact order One) value.Bytes (Number One) 1 (fixed-number order One) (λ m bytes. refl) (λ xs. refl) refl s
+    listed (Number Two) s =
+        of_items (number_in order Two) (IsNumber order Two) (number_in-exact order Two) value.Nums (Number Two) 2 (fixed-number order Two) (λ m bytes. refl) (λ xs. refl) refl s
+    listed (Number Four) s =
+        of_items (number_in order Four) (IsNumber order Four) (number_in-exact order Four) value.Nums (Number Four) 4 (fixed-number order Four) (λ m bytes. refl) (λ xs. refl) refl s
+    listed (Number Eight) s =
+        of_items (number_in order Eight) (IsNumber order Eight) (number_in-exact order Eight) value.Nums (Number Eight) 8 (fixed-number order Eight) (λ m bytes. refl) (λ xs. refl) refl s
+    listed (Pair width) s =
+        of_items (pair_in order width) (IsPair order width) (pair_in-exact order width) value.Pairs (Pair width) (2 * size_of width) (subst (IsFixed (pair_in order width)) (omega arith) (fixed-pair order width)) (λ m bytes. refl) (λ xs. refl) refl s
+    listed Link s =
+        of_items (link_in order) (IsLink order) (link_in-exact order) value.Links Link 6 (fixed-link order) (λ m bytes. refl) (λ xs. refl) refl s
+    listed Text s = cc
 
 -- what is told of an item of a known length
 plain-Tells : {X : Type 0} (item : List ℕ → Found X) (size : ℕ) (f : X → Value) (form : Form) → IsFixed item size → ((bytes rest : List ℕ) (x : X) → item bytes ≡ Ok (x, rest) → value_length form (f x) ≡ size) → (bytes : List ℕ) (r : Result Spelled BodyReason) → TellsLength size bytes r → Tells (found_map f (item bytes)) form bytes r
@@ -142,10 +171,6 @@ TellsLength-exact exact capped bytes (Ok s) is short told =
     let same : capped ≡ exact = omega (arith, told.0) in
     subst (λ n. TellsLength n bytes (Ok s)) same told
 TellsLength-exact exact capped bytes (Err reason) is short told = (omega (arith, told.0), told.1)
-
--- how many items are found
-items-length : {X : Type 0} (item : List ℕ → Found X) (R : X → List ℕ → Type 0) → IsExact item R → (n : ℕ) (bytes rest : List ℕ) (xs : List X) → items_in item n bytes ≡ Ok (xs, rest) → length xs ≡ n
-items-length item R exact n bytes rest xs e = ((items_in-exact item R exact n).found bytes (xs, rest) e).2.count
 
 numbers-Tells : (order : Order) (width : Width) (count : ℕ) (f : List ℕ → Value) → ((xs : List ℕ) → value_length (Number width) (f xs) ≡ length xs * size_of width) → (bytes : List ℕ) (r : Result Spelled BodyReason) (size : ℕ) → size ≡ min (count * size_of width) (2 ^ 64 - 1) → length bytes < 2 ^ 64 - 1 → TellsLength size bytes r → Tells (found_map f (items_in (number_in order width) count bytes)) (Number width) bytes r
 numbers-Tells order width count f is bytes r size capped short told =
@@ -335,22 +360,6 @@ pub field_in-listed : (order : Order) (numbers : List ℕ) (form : Form) (counts
 field_in-listed order numbers form [] bytes count some is = absurd (some refl)
 field_in-listed order numbers form (c ∷ cs) bytes count some is =
     sym (listed_in-capped order form (item_count numbers (c ∷ cs)) bytes) ∙ ap (λ n. listed_in order form n bytes) (sym is)
-
--- a varied field without dimension is a text
-varied-text : (form : Form) (counts : List Count) → counts ≡ [] → is_none (fixed_width form counts) ≡ true → form ≡ Text
-varied-text form [] none varied = by form varied
-  where
-    by : (form : Form) → is_none (fixed_width form []) ≡ true → form ≡ Text
-    by Text varied = refl
-    by (Number width) varied = cc
-    by (Pair width) varied = cc
-    by Link varied = cc
-varied-text form (c ∷ cs) none varied = cc
-
-pub varied-single : (order : Order) (numbers : List ℕ) (f : Field) (bytes : List ℕ) (r : Result Spelled BodyReason) → f.counts ≡ [] → is_varied f ≡ true → Tells (single_in order Text bytes) Text bytes r → Tells (field_in order numbers f.form f.counts bytes) f.form bytes r
-varied-single order numbers f bytes r none varied told =
-    let text = varied-text f.form f.counts none varied in
-    subst (λ form. Tells (field_in order numbers form f.counts bytes) form bytes r) (sym text) (subst (λ counts. Tells (field_in order numbers Text counts bytes) Text bytes r) (sym none) told)
 
 -- a slice to the end
 pub TellsText-rest : (order : Order) (bytes : List ℕ) (at : ℕ) (r : Result ℕ BodyReason) → TellsText (text_in order (take (length bytes - at) (drop at bytes))) (take (length bytes - at) (drop at bytes)) r → TellsText (text_in order (drop at bytes)) (drop at bytes) r

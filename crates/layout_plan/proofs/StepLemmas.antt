@@ -22,9 +22,9 @@ use Rattle.layout_plan.specs.declared.steps.Step.{Step}
 use Rattle.layout_plan.specs.Layout.{IsEarlier, AreSound}
 use Rattle.layout_plan.specs.Body.{item_count, extent_of}
 use Rattle.layout_plan.specs.Reading.{single_in, listed_in, field_in}
-use Rattle.layout_plan.specs.Marks.{fixed_width, is_varied, numbers_where, mark_of, place_of}
+use Rattle.layout_plan.specs.Marks.{product_by, numeral_of, factor_of, fixed_width, is_varied, numbers_where, mark_of, place_of}
 use Rattle.layout_plan.specs.Spelled.{Tells, TellsLength}
-use Rattle.layout_plan.specs.Steps.{single_width, items_of, product_by, numeral_of, factor_of, counter_of, counters_by, counters_of, width_at, step_of, no_step, step_at, steps_of, number_by, counted, counter_value, step_count, IsStep, HasRoom, IsThere, AreThere}
+use Rattle.layout_plan.specs.Steps.{single_width, items_of, counter_of, counters_by, counters_of, width_at, step_of, no_step, step_at, steps_of, number_by, counted, counter_value, step_count, IsStep, HasRoom, IsThere, AreThere}
 use Rattle.layout_plan.specs.Walking.{number_at, AreNumbers, ArePlaces}
 use Rattle.layout_plan.proofs.SpelledLemmas.{capped-product, field_in-listed, listed_numbers-Tells, listed_pairs-Tells, listed_links-Tells}
 use Rattle.layout_plan.proofs.CounterLemmas.{AreSound-at, counter-is, counter-room}

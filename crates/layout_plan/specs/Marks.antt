@@ -1,20 +1,53 @@
 -- Of the inside. Where fields stand: marks that tell a field's place from the ends of the fields whose bytes a body alone tells.
-use Rattle.std.specs.Prelude.{ℕ, zero, suc, ◌+◌, ◌*◌, Bool, if◌then◌else◌, List, [], ◌∷◌, Option, Some, None, is_none, slice_index}
+use Rattle.std.specs.Prelude.{ℕ, zero, suc, ◌+◌, ◌-◌, ◌*◌, ◌^◌, min, nat_le, Bool, true, false, option_and_then, if◌then◌else◌, List, [], ◌∷◌, Option, Some, None, is_none, slice_index}
 use Rattle.scalar_types.specs.Number.{size_of}
 use Rattle.layout_plan.specs.declared.fields.Form.{Form}
-use Rattle.layout_plan.specs.declared.fields.Form.TheVariants.{Number, Pair, Link}
+use Rattle.layout_plan.specs.declared.fields.Form.TheVariants.{Number, Pair, Text, Link}
 use Rattle.layout_plan.specs.declared.fields.Count.{Count}
+use Rattle.layout_plan.specs.declared.fields.Count.TheVariants.{Fixed, Of, OfSigned}
 use Rattle.layout_plan.specs.declared.fields.Field.{Field}
 use Rattle.layout_plan.specs.declared.marks.Mark.{Mark}
 
--- the bytes of a field of fixed width: one without dimension that is no text
-abbrev pub fixed_width : Form → List Count → Option ℕ
-fixed_width (Number width) [] = Some (size_of width)
-fixed_width (Pair width) [] = Some (2 * size_of width)
-fixed_width Link [] = Some 6
-fixed_width form counts = None
+-- the product of what is told of each of some
+abbrev pub product_by : {X : Type 0} → (X → ℕ) → List X → ℕ
+product_by f [] = 1
+product_by f (x ∷ xs) = f x * product_by f xs
 
--- a varied field: a text or one with dimensions
+-- the numeral of a dimension; a name has none
+abbrev pub numeral_of : Count → ℕ
+numeral_of (Fixed n) = n
+numeral_of (Of k) = 1
+numeral_of (OfSigned k width) = 1
+
+-- the product of the numerals, as far as it fits
+abbrev pub factor_of : List Count → ℕ
+factor_of counts = min (product_by numeral_of counts) (2 ^ 64 - 1)
+
+-- whether all dimensions are numerals
+abbrev pub are_numerals : List Count → Bool
+are_numerals [] = true
+are_numerals (Fixed n ∷ cs) = are_numerals cs
+are_numerals (Of k ∷ cs) = false
+are_numerals (OfSigned k width ∷ cs) = false
+
+-- the bytes of an item of fixed size
+abbrev pub item_size : Form → Option ℕ
+item_size (Number width) = Some (size_of width)
+item_size (Pair width) = Some (2 * size_of width)
+item_size Link = Some 6
+item_size Text = None
+
+-- the bytes of so many items of a size, where they are 4,096 at most
+abbrev pub short_list : ℕ → ℕ → Option ℕ
+short_list n size = if nat_le (n * size) 4096 then Some (n * size) else None
+
+-- the bytes of a field of fixed width: one without dimension, or with numerals alone, that has no text and is not long
+abbrev pub fixed_width : Form → List Count → Option ℕ
+fixed_width form [] = item_size form
+fixed_width form (c ∷ cs) =
+    if are_numerals (c ∷ cs) then option_and_then (short_list (product_by numeral_of (c ∷ cs))) (item_size form) else None
+
+-- a varied field: a text, a long list or one that numbers count
 abbrev pub is_varied : Field → Bool
 is_varied f = is_none (fixed_width f.form f.counts)
 

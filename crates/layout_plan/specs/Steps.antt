@@ -17,7 +17,7 @@ use Rattle.layout_plan.specs.declared.steps.Step.{Step}
 use Rattle.layout_plan.specs.Layout.{IsLayout}
 use Rattle.layout_plan.specs.Links.{is_link}
 use Rattle.layout_plan.specs.Body.{signed_count}
-use Rattle.layout_plan.specs.Marks.{is_varied, numbers_where, first_mark, marks_from, mark_of, place_of}
+use Rattle.layout_plan.specs.Marks.{product_by, factor_of, is_varied, numbers_where, first_mark, marks_from, mark_of, place_of}
 
 -- the width of one number
 abbrev pub single_width : Form → List Count → Option Width
@@ -31,21 +31,6 @@ items_of (Pair width) counts = Plain (2 * size_of width)
 items_of Link counts = Plain 6
 items_of Text [] = OneText
 items_of Text (c ∷ cs) = Texts
-
--- the product of what is told of each of some
-abbrev pub product_by : {X : Type 0} → (X → ℕ) → List X → ℕ
-product_by f [] = 1
-product_by f (x ∷ xs) = f x * product_by f xs
-
--- the numeral of a dimension; a name has none
-abbrev pub numeral_of : Count → ℕ
-numeral_of (Fixed n) = n
-numeral_of (Of k) = 1
-numeral_of (OfSigned k width) = 1
-
--- the product of the numerals, as far as it fits
-abbrev pub factor_of : List Count → ℕ
-factor_of counts = min (product_by numeral_of counts) (2 ^ 64 - 1)
 
 -- the counter of a dimension that names field k
 abbrev pub width_at : List Field → ℕ → Option Width

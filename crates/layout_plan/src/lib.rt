@@ -42,4 +42,6 @@ mod tests_of_links;
 #[cfg(test)]
 mod tests_of_plans;
 #[cfg(test)]
+mod tests_of_products;
+#[cfg(test)]
 mod tests_of_rewriting;

@@ -3,11 +3,10 @@ ghost use Rattle.std.specs.Prelude.{◌≡◌, ◌≤◌, ◌<◌, ◌++◌, len
 ghost use Rattle.layout_plan.specs.Layout.{AreSound, IsEarlier};
 ghost use Rattle.layout_plan.specs.declared.fields.Field.{Field};
 ghost use Rattle.layout_plan.specs.Marks.{first_mark, marks_from};
-ghost use Rattle.layout_plan.specs.Steps.{single_width, items_of, numeral_of, factor_of, counter_of, counters_by, counters_of, step_of, steps_of};
+ghost use Rattle.layout_plan.specs.Steps.{single_width, items_of, counter_of, counters_by, counters_of, step_of, steps_of};
 
 use crate::links::LINK_SIZE;
-use crate::marks::{Mark, fixed_width};
-use crate::spelled::capped_product;
+use crate::marks::{Mark, factor_of, fixed_width};
 use crate::{Count, Field, Form};
 use scalar_types::Width;
 use std::alloc::{AllocError, Global};
@@ -102,27 +101,6 @@ fn items_of(field: &Field) -> Items
                 Items::Texts
             }
         }
-    }
-}
-
-/// The product of the numeral dimensions, capped.
-fn factor_of(counts: &[Count]) -> usize
-    ensures { result ≡ factor_of counts.now }
-{
-    let mut factor = 1;
-    for count in counts {
-        factor = capped_product(factor, numeral_of(*count), usize::MAX);
-    }
-    factor
-}
-
-/// The numeral of a dimension, or 1 where it is a name.
-fn numeral_of(count: Count) -> u64
-    ensures { result ≡ numeral_of count }
-{
-    match count {
-        Count::Fixed(n) => u64::from(n),
-        Count::Of(_) | Count::OfSigned(_, _) => 1,
     }
 }
 

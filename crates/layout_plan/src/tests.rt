@@ -41,7 +41,7 @@ pub fn plan(alloc: Global, elements: &[(&str, &str)]) -> Result<Option<Plan>, Al
 }
 
 /// What `measure` answers of the body, or None where the layout does not read.
-fn measured(
+pub fn measured(
     alloc: Global,
     elements: &[(&str, &str)],
     order: Order,
@@ -53,11 +53,11 @@ fn measured(
     }
 }
 
-fn ok(zero_texts: u64, links: u64) -> Result<Measured, BodyFault> {
+pub fn ok(zero_texts: u64, links: u64) -> Result<Measured, BodyFault> {
     Ok(Measured { zero_texts, links })
 }
 
-fn fault(field: u32, reason: BodyReason) -> Result<Measured, BodyFault> {
+pub fn fault(field: u32, reason: BodyReason) -> Result<Measured, BodyFault> {
     Err(BodyFault { field, reason })
 }
 
@@ -127,6 +127,34 @@ fn bodies_are_measured(rt: HostRuntime) -> Result<(), Fail> {
         let found = measured(alloc, &[("a", text)], Order::Little, body)?;
         assert_eq!(rt; found, Some(want), "{text} {body:?}");
     }
+    Ok(())
+}
+
+#[test]
+fn a_vector_is_measured(rt: HostRuntime) -> Result<(), Fail> {
+    let elements = [
+        ("name", "STRING"),
+        ("compress", "INT_2U"),
+        ("type", "INT_2U"),
+        ("nData", "INT_8U"),
+        ("nBytes", "INT_8U"),
+        ("data", "CHAR[nBytes]"),
+        ("nDim", "INT_4U"),
+        ("nx", "INT_8U[nDim]"),
+        ("dx", "REAL_8[nDim]"),
+        ("startX", "REAL_8[nDim]"),
+        ("unitX", "STRING[nDim]"),
+        ("unitY", "STRING"),
+        ("next", "PTR_STRUCT(FrVect *)"),
+        ("chkSum", "INT_4U"),
+    ];
+    let body = [
+        2, 0, 0x41, 0, 0, 0, 4, 0, 2, 0, 0, 0, 0, 0, 0, 0, 2, 0, 0, 0, 0, 0, 0, 0, 7, 8, 1, 0, 0,
+        0, 2, 0, 0, 0, 0, 0, 0, 0, 0, 0, 0, 0, 0, 0, 0xf0, 0x3f, 0, 0, 0, 0, 0, 0, 0, 0, 2, 0,
+        0x73, 0, 0, 0, 0, 0, 0, 0, 0, 0, 1, 2, 3, 4,
+    ];
+    let found = measured(rt.alloc(), &elements, Order::Little, &body)?;
+    assert_eq!(rt; found, Some(ok(1, 1)));
     Ok(())
 }
 

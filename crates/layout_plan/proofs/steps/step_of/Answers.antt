@@ -1,8 +1,8 @@
 use Rattle.std.proofs.Common.{get_or, length, refl, sym, ap, ◌∙◌, arith}
 use Rattle.std.proofs.lemmas.Option.{slice_get_read, same_Some}
 use Rattle.layout_plan.specs.declared.fields.Field.{Field}
-use Rattle.layout_plan.specs.Marks.{first_mark}
-use Rattle.layout_plan.specs.Steps.{items_of, factor_of, counters_of}
+use Rattle.layout_plan.specs.Marks.{first_mark, factor_of}
+use Rattle.layout_plan.specs.Steps.{items_of, counters_of}
 use Rattle.layout_plan.proofs.MarkLemmas.{marks_from-at, length-marks_from}
 use Rattle.layout_plan.proofs.StepLemmas.{sound-within}
 use Rattle.layout_plan.proofs.steps.step_of.Goals as goal

@@ -1,7 +1,8 @@
 use Rattle.std.proofs.Common.{◌≡◌, ◌∙◌, ◌*◌, min, length, drop, ap, sym, arith}
 use Rattle.std.proofs.lemmas.List.{drop_all}
 use Rattle.layout_plan.specs.declared.steps.Counter.{Counter}
-use Rattle.layout_plan.specs.Steps.{product_by, counter_value, AreThere}
+use Rattle.layout_plan.specs.Marks.{product_by}
+use Rattle.layout_plan.specs.Steps.{counter_value, AreThere}
 use Rattle.layout_plan.proofs.StepLemmas.{product-more, capped-first, capped-none}
 use Rattle.layout_plan.proofs.walking.count_at.Goals as goal
 

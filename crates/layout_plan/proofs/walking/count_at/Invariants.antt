@@ -1,5 +1,6 @@
 use Rattle.std.proofs.Common.{◌≡◌, ◌*◌, ◌≤◌, min, drop}
-use Rattle.layout_plan.specs.Steps.{product_by, counter_value}
+use Rattle.layout_plan.specs.Marks.{product_by}
+use Rattle.layout_plan.specs.Steps.{counter_value}
 use Rattle.layout_plan.proofs.walking.count_at.Given as goal
 
 -- the count so far times those left is the product of all, as far as the cap tells

@@ -1,6 +1,6 @@
 use Rattle.std.proofs.Common.{◌≡◌, ◌*◌, ◌-◌, ◌^◌, ◌≤◌, min, drop}
-use Rattle.layout_plan.specs.Steps.{product_by, numeral_of, factor_of}
-use Rattle.layout_plan.proofs.steps.factor_of.Given as goal
+use Rattle.layout_plan.specs.Marks.{product_by, numeral_of, factor_of}
+use Rattle.layout_plan.proofs.marks.factor_of.Given as goal
 
 -- the product so far times those left is the product of all, as far as it fits
 abbrev pub invariant-loop-count : goal.invariant-loop-count

@@ -1,7 +1,7 @@
 use Rattle.std.proofs.Common.{◌-◌, ◌^◌, ◌∙◌, arith}
-use Rattle.layout_plan.specs.Steps.{numeral_of}
+use Rattle.layout_plan.specs.Marks.{numeral_of}
 use Rattle.layout_plan.proofs.StepLemmas.{product-more}
-use Rattle.layout_plan.proofs.steps.factor_of.Goals as goal
+use Rattle.layout_plan.proofs.marks.factor_of.Goals as goal
 
 pub loop-count-preserved : goal.loop-count-preserved
 loop-count-preserved c = record {
