@@ -23,7 +23,7 @@ pub use faults::{BodyFault, BodyReason, Measured};
 pub use fields::{Count, CountList, Field, Form};
 pub use laws::{bodies_have_one_answer, layouts_are_sound, lengths_are_told};
 pub use lent::{num_at, span_of, text_at};
-pub use links::{FieldLink, LINK_SIZE, link_at, link_field, push_links};
+pub use links::{FieldLink, LINK_SIZE, link_at, link_field, link_start, push_links};
 pub use measuring::{TAIL_SIZE, measure};
 pub use plan::{Plan, compile};
 pub use plans::Plans;
