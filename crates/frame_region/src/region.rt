@@ -143,7 +143,8 @@ impl Region {
     /// The bytes that were given to a live span, as `write` has changed them since. It takes no memory.
     pub fn at(&self, span: Span) -> &[u8]
         requires { IsLive self.now span }
-        ensures { result.now ≡ bytes_of self.now span }
+        ensures bytes { result.now ≡ bytes_of self.now span }
+        ensures few { length result.now ≤ most_bytes }
     {
         let from = span.at as usize;
         &self.bytes[from..from + span.length as usize]

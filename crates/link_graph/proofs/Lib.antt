@@ -1,0 +1,7 @@
+pub mod Found
+pub mod Marking
+pub mod Bodies
+pub mod Writing
+pub mod FirstLoose
+pub mod Tables
+pub mod Spelled

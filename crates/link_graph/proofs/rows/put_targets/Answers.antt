@@ -1,0 +1,6 @@
+use Rattle.std.proofs.Common.{arith, rules}
+use Rattle.link_graph.proofs.FirstLoose.{none-put, one-put, loose-here, all-put}
+use Rattle.link_graph.proofs.rows.put_targets.Goals as goal
+
+pub loop-k-init : goal.loop-k-init
+loop-k-init c = none-put c.args.segment.now.nodes c.args.links.now c.args.targets.now.items

@@ -1,0 +1,7 @@
+-- what callers cite
+pub mod Collected
+pub mod Graph
+pub mod Relinked
+-- of the inside: how records, bodies and targets are kept
+pub mod Kept
+pub mod Table

@@ -1,0 +1,126 @@
+//! The records kept, in order, and found by class and instance.
+
+ghost use Rattle.std.specs.Prelude.{◌≡◌, ◌<◌, ◌≤◌, [], ◌++◌, ◌∷◌, None, Some, length, map, slice_get, OnOk, OnErr};
+ghost use Rattle.link_graph.specs.Collected.{link_to, without_stat_root};
+ghost use Rattle.link_graph.specs.Kept.{number_in, without_stat_kept};
+
+use crate::nodes::{Kept, Root, link_to};
+use std::alloc::{AllocError, Global};
+use std::collections::BTreeMap;
+use std::marker::Model;
+use type_text::Link;
+
+/// Records of which no two have one class and instance. Contracts see them in the order in which they came.
+#[derive(Drop)]
+pub struct Records {
+    kept: Vec<Kept>,
+    /// The number of each record by its class and instance, in an order of these: so no file makes a search long.
+    numbers: BTreeMap<(u16, u32), u32>,
+}
+
+impl Model for Records {
+    ghost use Rattle.std.specs.Prelude.{List};
+    ghost use Rattle.link_graph.specs.declared.nodes.Kept.{Kept};
+    ghost use Rattle.link_graph.specs.Kept.{AreNumbered};
+
+    ghost Value = { List Kept };
+
+    ghost view = { λ r. r.kept.items };
+
+    ghost invariant = { λ r. AreNumbered r.kept.items r.numbers };
+}
+
+impl Records {
+    /// No record. It takes no memory yet.
+    pub fn new(alloc: Global) -> Records
+        ensures { result ≡ [] }
+    {
+        Records {
+            kept: Vec::new(alloc),
+            numbers: BTreeMap::new(alloc),
+        }
+    }
+
+    /// The allocator.
+    pub fn allocator(&self) -> Global {
+        *self.kept.allocator()
+    }
+
+    /// How many there are.
+    pub fn len(&self) -> u32
+        ensures { result ≡ length self.now }
+    {
+        self.kept.len() as u32
+    }
+
+    /// The number of the record with a link's class and instance.
+    pub fn number(&self, to: Link) -> Option<u32>
+        ensures { result ≡ number_in self.now to }
+    {
+        self.numbers.get(&(to.class, to.instance)).copied()
+    }
+
+    /// The record of a number.
+    pub fn record(&self, k: u32) -> &Kept
+        requires { k < length self.now }
+        ensures { slice_get self.now k ≡ Some result.now }
+    {
+        &self.kept[k as usize]
+    }
+
+    /// Puts a record whose class and instance none has behind the others, which are fewer than 4,294,967,295.
+    pub fn push(&mut self, kept: Kept) -> Result<(), AllocError>
+        requires few { length self.old < 4294967295 }
+        requires free { number_in self.old (link_to kept.node) ≡ None }
+        ensures ok { OnOk result (self.new ≡ self.old ++ kept ∷ []) }
+        ensures err { OnErr result (self.new ≡ self.old) }
+    {
+        let number = self.len();
+        let to = link_to(kept.node);
+        if self.kept.push(kept).is_err() {
+            return Err(AllocError);
+        }
+        if self
+            .numbers
+            .insert((to.class, to.instance), number)
+            .is_err()
+        {
+            self.kept.truncate(number as usize);
+            return Err(AllocError);
+        }
+        Ok(())
+    }
+
+    /// Marks all static data as no roots.
+    pub fn drop_stat_roots(&mut self)
+        ensures { self.new ≡ map without_stat_kept self.old }
+    {
+        drop_stat_roots(self.kept.as_mut_slice());
+    }
+
+    /// Holds no record any more. It takes time by how many there were.
+    pub fn clear(&mut self)
+        ensures { self.new ≡ [] }
+    {
+        self.kept.clear();
+        self.numbers.clear();
+    }
+}
+
+/// Marks all static data among some records as no roots.
+fn drop_stat_roots(kept: &mut [Kept])
+    ensures { kept.new ≡ map without_stat_kept kept.old }
+{
+    for k in 0..kept.len() {
+        kept[k].node.root = without_stat_root(kept[k].node.root);
+    }
+}
+
+fn without_stat_root(root: Root) -> Root
+    ensures { result ≡ without_stat_root root }
+{
+    match root {
+        Root::Head => Root::Head,
+        Root::No | Root::Stat => Root::No,
+    }
+}
