@@ -5,3 +5,4 @@ pub mod Writing
 pub mod FirstLoose
 pub mod Tables
 pub mod Spelled
+pub mod Reading

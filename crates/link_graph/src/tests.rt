@@ -161,77 +161,72 @@ fn closed(
     Some(segment.close(alloc, plans))
 }
 
-/// Eight records, made by hand: two that no path ends in, a cycle, a null link, a list of links, and a record that is shared.
-fn frame(alloc: Global, order: Order) -> Result<Segment, SegmentFault> {
-    let mut segment = Segment::new(alloc, order);
-    add(&mut segment, node(PLAIN, 5, Root::No), &[7])?;
-    links(&mut segment, &[(11, 0), (10, 1)])?;
-    add(&mut segment, node(PAIR, 0, Root::Head), &[])?;
-    links(&mut segment, &[(10, 0), (0, 9)])?;
-    add(&mut segment, node(PAIR, 1, Root::No), &[])?;
-    count(&mut segment, 3)?;
-    links(&mut segment, &[(10, 1), (12, 6), (11, 0)])?;
-    add(&mut segment, node(LIST, 0, Root::Stat), &[])?;
-    add(&mut segment, node(PLAIN, 6, Root::No), &[8])?;
-    count(&mut segment, 1)?;
-    links(&mut segment, &[(12, 7)])?;
-    add(&mut segment, node(LIST, 1, Root::Stat), &[])?;
-    add(&mut segment, node(PLAIN, 7, Root::No), &[9])?;
-    links(&mut segment, &[(12, 5), (10, 9)])?;
-    add(&mut segment, node(PAIR, 9, Root::No), &[])?;
+/// Class, instance and root of a record, and the bytes of its body.
+type Made = (u8, u32, Root, &'static [u8]);
+
+/// Eight records: two that no path ends in, a cycle, a null link, a list of links, and a record that is shared.
+const FRAME: [Made; 8] = [
+    (PLAIN, 5, Root::No, &[7]),
+    (PAIR, 0, Root::Head, &[11, 0, 0, 0, 0, 0, 10, 0, 1, 0, 0, 0]),
+    (PAIR, 1, Root::No, &[10, 0, 0, 0, 0, 0, 0, 0, 9, 0, 0, 0]),
+    (
+        LIST,
+        0,
+        Root::Stat,
+        &[
+            3, 0, 10, 0, 1, 0, 0, 0, 12, 0, 6, 0, 0, 0, 11, 0, 0, 0, 0, 0,
+        ],
+    ),
+    (PLAIN, 6, Root::No, &[8]),
+    (LIST, 1, Root::Stat, &[1, 0, 12, 0, 7, 0, 0, 0]),
+    (PLAIN, 7, Root::No, &[9]),
+    (PAIR, 9, Root::No, &[12, 0, 5, 0, 0, 0, 10, 0, 9, 0, 0, 0]),
+];
+
+/// A segment of these records.
+fn segment_of(alloc: Global, records: &[Made]) -> Result<Segment, SegmentFault> {
+    let mut segment = Segment::new(alloc, Order::Little);
+    for (class, instance, root, body) in records {
+        add(&mut segment, node(*class, *instance, *root), body)?;
+    }
     Ok(segment)
-}
-
-/// Puts links behind the pending body.
-fn links(segment: &mut Segment, links: &[(u16, u32)]) -> Result<(), SegmentFault> {
-    for (class, instance) in links {
-        let to = Link {
-            class: *class,
-            instance: *instance,
-        };
-        let order = segment.order();
-        put(segment, &link_bytes(order, to))?;
-    }
-    Ok(())
-}
-
-/// Puts the count of a list behind the pending body.
-fn count(segment: &mut Segment, n: u8) -> Result<(), SegmentFault> {
-    match segment.order() {
-        Order::Big => put(segment, &[0, n]),
-        Order::Little => put(segment, &[n, 0]),
-    }
 }
 
 fn loose(node: u32, link: u32) -> CloseFault {
     CloseFault::LooseLink { node, link }
 }
 
-/// The breadth-first order of a segment.
-fn order_of(alloc: Global, segment: &Segment, plans: &Plans) -> Result<Numbering, Fail> {
-    let numbering = closed(alloc, segment, plans).ok_or("a body does not read")??;
-    Ok(numbering)
+/// Whether this is the breadth-first order of a segment.
+fn is_order(alloc: Global, segment: &Segment, plans: &Plans, order: &[u32]) -> bool {
+    match closed(alloc, segment, plans) {
+        Some(Ok(numbering)) => numbering.sequence() == order,
+        _ => false,
+    }
+}
+
+/// Whether this is the first loose link of a segment.
+fn is_loose(alloc: Global, segment: &Segment, plans: &Plans, fault: CloseFault) -> bool {
+    match closed(alloc, segment, plans) {
+        Some(Err(found)) => found == fault,
+        _ => false,
+    }
 }
 
 #[test]
 fn records_are_numbered_breadth_first(rt: HostRuntime) -> Result<(), Fail> {
-    for order in [Order::Little, Order::Big] {
-        let plans = plans(rt.alloc())?;
-        let segment = frame(rt.alloc(), order)?;
-        let numbering = order_of(rt.alloc(), &segment, &plans)?;
-        assert_eq!(rt; numbering.sequence(), [1, 3, 5, 2, 4, 6].as_slice());
-        assert_eq!(rt; numbering.number_of(2), Some(3));
-        assert_eq!(rt; numbering.number_of(0), None);
-        assert_eq!(rt; numbering.number_of(7), None);
-        assert_eq!(rt; segment.len(), 8);
-    }
+    let plans = plans(rt.alloc())?;
+    let segment = segment_of(rt.alloc(), &FRAME)?;
+    assert!(rt;
+        is_order(rt.alloc(), &segment, &plans, &[1, 3, 5, 2, 4, 6]),
+        "order"
+    );
     Ok(())
 }
 
 #[test]
-fn the_first_loose_link_is_named_and_mended(rt: HostRuntime) -> Result<(), Fail> {
+fn the_first_loose_link_in_file_order_is_named(rt: HostRuntime) -> Result<(), Fail> {
     let plans = plans(rt.alloc())?;
-    let mut segment = frame(rt.alloc(), Order::Little)?;
+    let mut segment = segment_of(rt.alloc(), &FRAME)?;
     let nowhere = Link {
         class: 12,
         instance: 8,
@@ -240,90 +235,103 @@ fn the_first_loose_link_is_named_and_mended(rt: HostRuntime) -> Result<(), Fail>
     // The breadth-first order comes to record 3 before record 2.
     assert!(rt; set_link(&mut segment, &plans, 2, 1, nowhere), "2");
     assert!(rt; set_link(&mut segment, &plans, 3, 1, nowhere), "3");
-    assert_eq!(rt;
-        closed(rt.alloc(), &segment, &plans).ok_or("read")?.err(),
-        Some(loose(2, 1))
+    assert!(rt;
+        is_loose(rt.alloc(), &segment, &plans, loose(2, 1)),
+        "loose"
     );
-    let null = Link {
-        class: 0,
-        instance: 1,
-    };
-    assert!(rt; set_link(&mut segment, &plans, 2, 1, null), "2 again");
-    assert_eq!(rt;
-        closed(rt.alloc(), &segment, &plans).ok_or("read")?.err(),
-        Some(loose(3, 1))
-    );
-    let there = Link {
-        class: 12,
-        instance: 7,
-    };
-    assert!(rt; set_link(&mut segment, &plans, 3, 1, there), "3 again");
-    let numbering = order_of(rt.alloc(), &segment, &plans)?;
-    assert_eq!(rt; numbering.sequence(), [1, 3, 5, 2, 6].as_slice());
-    segment.drop_stat_roots();
-    let fewer = order_of(rt.alloc(), &segment, &plans)?;
-    assert_eq!(rt; fewer.sequence(), [1, 3, 2, 6].as_slice());
     Ok(())
 }
 
 #[test]
-fn pairs_are_held_once_and_a_cleared_segment_is_used_again(rt: HostRuntime) -> Result<(), Fail> {
+fn links_are_set_and_roots_are_dropped(rt: HostRuntime) -> Result<(), Fail> {
+    let plans = plans(rt.alloc())?;
+    let mut segment = segment_of(rt.alloc(), &FRAME)?;
+    let there = Link {
+        class: 12,
+        instance: 7,
+    };
+    assert!(rt; set_link(&mut segment, &plans, 3, 1, there), "3");
+    assert!(rt;
+        is_order(rt.alloc(), &segment, &plans, &[1, 3, 5, 2, 6]),
+        "linked"
+    );
+    segment.drop_stat_roots();
+    assert!(rt;
+        is_order(rt.alloc(), &segment, &plans, &[1, 3, 2, 6]),
+        "one root"
+    );
+    Ok(())
+}
+
+#[test]
+fn a_cleared_segment_is_used_again(rt: HostRuntime) -> Result<(), Fail> {
     let mut segment = Segment::new(rt.alloc(), Order::Big);
     let first = node(PLAIN, 1, Root::No);
     assert_eq!(rt; add(&mut segment, first, &[1]), Ok(0));
-    put(&mut segment, &[2])?;
-    segment.forget();
-    assert_eq!(rt; add(&mut segment, node(LIST, 1, Root::No), &[0, 0]), Ok(1));
     assert_eq!(rt;
         add(&mut segment, first, &[3]),
         Err(SegmentFault::InstanceTwice)
     );
-    assert_eq!(rt; segment.pending(), [3].as_slice());
-    assert_eq!(rt; segment.given(), 5);
-    segment.set_end(node(PLAIN, 1, Root::No));
+    segment.set_end(first);
     assert_eq!(rt; segment.end_body(), [3].as_slice());
-    assert_eq!(rt; segment.end_node().copied(), Some(first));
-    assert!(rt; segment.len() == 2, "two records");
-    assert_eq!(rt; segment.body(0), [1].as_slice());
     segment.clear();
-    assert_eq!(rt; segment.len(), 0);
-    assert_eq!(rt; segment.end_node().copied(), None);
+    assert_eq!(rt; segment.end_body(), [].as_slice());
     assert_eq!(rt; add(&mut segment, first, &[4, 5]), Ok(0));
-    assert!(rt; segment.len() == 1, "one record");
-    assert_eq!(rt; segment.body(0), [4, 5].as_slice());
-    assert_eq!(rt; segment.order(), Order::Big);
+    assert_eq!(rt; segment.given(), 2);
     Ok(())
 }
 
 /// How many records the large frames have.
 const MANY: u32 = 1_000_000;
 
-/// A chain of records, each with a link to the one whose instance follows in turn, that come in the order of these steps.
+/// A chain of records, each with a link to the one whose instance follows, that come in the order of these steps.
 fn chain(alloc: Global, step: u32) -> Result<Segment, SegmentFault> {
     let mut segment = Segment::new(alloc, Order::Little);
     let mut instance = 0;
-    for k in 0..MANY {
+    for _ in 0..MANY {
         let root = if instance == 0 { Root::Head } else { Root::No };
-        let next = if instance == MANY - 1 { 0 } else { PAIR };
-        links(
-            &mut segment,
-            &[(u16::from(next), (instance + 1) % MANY), (0, k)],
-        )?;
-        add(&mut segment, node(PAIR, instance, root), &[])?;
-        instance = (instance + step) % MANY;
+        let next = if instance < MANY - 1 { instance + 1 } else { 0 };
+        let class = if next == 0 { 0 } else { u16::from(PAIR) };
+        let to = Link {
+            class,
+            instance: next,
+        };
+        put(&mut segment, &link_bytes(Order::Little, to))?;
+        add(&mut segment, node(PAIR, instance, root), &[0; 6])?;
+        instance = (instance % MANY + step % MANY) % MANY;
     }
     Ok(segment)
 }
 
+/// Whether such a chain is numbered, and the segment cleared.
+fn is_numbered(alloc: Global, step: u32) -> Result<bool, SegmentFault> {
+    let plans = match plans(alloc) {
+        Ok(plans) => plans,
+        Err(AllocError) => return Err(SegmentFault::NoMemory),
+    };
+    let mut segment = chain(alloc, step)?;
+    let numbered = match closed(alloc, &segment, &plans) {
+        Some(Ok(numbering)) => numbering.sequence().len() == MANY as usize,
+        _ => false,
+    };
+    segment.clear();
+    Ok(numbered && segment.len() == 0)
+}
+
 #[test]
-fn a_million_records_in_order_reversed_and_shuffled(rt: HostRuntime) -> Result<(), Fail> {
-    for step in [1, MANY - 1, 618_033] {
-        let plans = plans(rt.alloc())?;
-        let mut segment = chain(rt.alloc(), step)?;
-        let numbering = order_of(rt.alloc(), &segment, &plans)?;
-        assert_eq!(rt; numbering.sequence().len(), 1_000_000);
-        segment.clear();
-        assert_eq!(rt; segment.len(), 0);
-    }
+fn a_million_records_in_order(rt: HostRuntime) -> Result<(), Fail> {
+    assert_eq!(rt; is_numbered(rt.alloc(), 1), Ok(true));
+    Ok(())
+}
+
+#[test]
+fn a_million_records_reversed(rt: HostRuntime) -> Result<(), Fail> {
+    assert_eq!(rt; is_numbered(rt.alloc(), MANY - 1), Ok(true));
+    Ok(())
+}
+
+#[test]
+fn a_million_records_shuffled(rt: HostRuntime) -> Result<(), Fail> {
+    assert_eq!(rt; is_numbered(rt.alloc(), 618_033), Ok(true));
     Ok(())
 }
