@@ -18,23 +18,29 @@ single form = record { form = form; counts = []; is_sum = false } ∷ []
 -- two numbers of eight bytes, and a list of numbers of two bytes with these two as dimensions
 table : List Field
 table =
-    record { form = Number Eight; counts = []; is_sum = false } ∷ record { form = Number Eight; counts = []; is_sum = false } ∷ record { form = Number Two; counts = Of 0 ∷ Of 1 ∷ []; is_sum = false } ∷ []
+    record { form = Number Eight; counts = []; is_sum = false }
+    ∷ record { form = Number Eight; counts = []; is_sum = false }
+    ∷ record { form = Number Two; counts = Of 0 ∷ Of 1 ∷ []; is_sum = false } ∷ []
 
 -- 2^64 - 1 times 2 items, and no byte for them
-table-short : body_in Little table (255 ∷ 255 ∷ 255 ∷ 255 ∷ 255 ∷ 255 ∷ 255 ∷ 255 ∷ 2 ∷ 0 ∷ 0 ∷ 0 ∷ 0 ∷ 0 ∷ 0 ∷ 0 ∷ []) ≡ Err (record { field = 2; reason = BodyShort })
+table-short : body_in Little table (255 ∷ 255 ∷ 255 ∷ 255 ∷ 255 ∷ 255 ∷ 255 ∷ 255 ∷ 2 ∷ 0 ∷ 0 ∷ 0 ∷ 0 ∷ 0 ∷ 0 ∷ 0 ∷ [])
+    ≡ Err (record { field = 2; reason = BodyShort })
 unfolding body_in items_in table
 table-short = refl
 
 -- 2^64 - 1 times 0 items
-table-empty : body_in Little table (255 ∷ 255 ∷ 255 ∷ 255 ∷ 255 ∷ 255 ∷ 255 ∷ 255 ∷ 0 ∷ 0 ∷ 0 ∷ 0 ∷ 0 ∷ 0 ∷ 0 ∷ 0 ∷ []) ≡ Ok (value.Num 18446744073709551615 ∷ value.Num 0 ∷ value.Nums [] ∷ [], [])
+table-empty : body_in Little table (255 ∷ 255 ∷ 255 ∷ 255 ∷ 255 ∷ 255 ∷ 255 ∷ 255 ∷ 0 ∷ 0 ∷ 0 ∷ 0 ∷ 0 ∷ 0 ∷ 0 ∷ 0 ∷ [])
+    ≡ Ok (value.Num 18446744073709551615 ∷ value.Num 0 ∷ value.Nums [] ∷ [], [])
 unfolding body_in items_in table
 table-empty = refl
 
-table-two : body_in Little table (2 ∷ 0 ∷ 0 ∷ 0 ∷ 0 ∷ 0 ∷ 0 ∷ 0 ∷ 1 ∷ 0 ∷ 0 ∷ 0 ∷ 0 ∷ 0 ∷ 0 ∷ 0 ∷ 1 ∷ 0 ∷ 2 ∷ 0 ∷ []) ≡ Ok (value.Num 2 ∷ value.Num 1 ∷ value.Nums (1 ∷ 2 ∷ []) ∷ [], [])
+table-two : body_in Little table (2 ∷ 0 ∷ 0 ∷ 0 ∷ 0 ∷ 0 ∷ 0 ∷ 0 ∷ 1 ∷ 0 ∷ 0 ∷ 0 ∷ 0 ∷ 0 ∷ 0 ∷ 0 ∷ 1 ∷ 0 ∷ 2 ∷ 0 ∷ [])
+    ≡ Ok (value.Num 2 ∷ value.Num 1 ∷ value.Nums (1 ∷ 2 ∷ []) ∷ [], [])
 unfolding body_in items_in table
 table-two = refl
 
-table-big : body_in Big table (0 ∷ 0 ∷ 0 ∷ 0 ∷ 0 ∷ 0 ∷ 0 ∷ 2 ∷ 0 ∷ 0 ∷ 0 ∷ 0 ∷ 0 ∷ 0 ∷ 0 ∷ 1 ∷ 0 ∷ 1 ∷ 0 ∷ 2 ∷ []) ≡ Ok (value.Num 2 ∷ value.Num 1 ∷ value.Nums (1 ∷ 2 ∷ []) ∷ [], [])
+table-big : body_in Big table (0 ∷ 0 ∷ 0 ∷ 0 ∷ 0 ∷ 0 ∷ 0 ∷ 2 ∷ 0 ∷ 0 ∷ 0 ∷ 0 ∷ 0 ∷ 0 ∷ 0 ∷ 1 ∷ 0 ∷ 1 ∷ 0 ∷ 2 ∷ [])
+    ≡ Ok (value.Num 2 ∷ value.Num 1 ∷ value.Nums (1 ∷ 2 ∷ []) ∷ [], [])
 unfolding body_in items_in table
 table-big = refl
 
@@ -62,14 +68,17 @@ text-closed : body_in Little (single Text) (2 ∷ 0 ∷ 65 ∷ 0 ∷ []) ≡ Ok 
 unfolding body_in single
 text-closed = refl
 
-pair-complex : body_in Little (single (Pair Four)) (0 ∷ 0 ∷ 128 ∷ 63 ∷ 0 ∷ 0 ∷ 0 ∷ 64 ∷ []) ≡ Ok (value.Pair 0x3f80_0000 0x4000_0000 ∷ [], [])
+pair-complex : body_in Little (single (Pair Four)) (0 ∷ 0 ∷ 128 ∷ 63 ∷ 0 ∷ 0 ∷ 0 ∷ 64 ∷ [])
+    ≡ Ok (value.Pair 0x3f80_0000 0x4000_0000 ∷ [], [])
 unfolding body_in single
 pair-complex = refl
 
 -- a number of two bytes, a text, a number of four, a link, and a list that counts by the first field
 five : List Field
 five =
-    record { form = Number Two; counts = []; is_sum = false } ∷ record { form = Text; counts = []; is_sum = false } ∷ record { form = Number Four; counts = []; is_sum = false } ∷ record { form = Link; counts = []; is_sum = false } ∷ record { form = Number Two; counts = Of 0 ∷ []; is_sum = false } ∷ []
+    record { form = Number Two; counts = []; is_sum = false } ∷ record { form = Text; counts = []; is_sum = false }
+    ∷ record { form = Number Four; counts = []; is_sum = false } ∷ record { form = Link; counts = []; is_sum = false }
+    ∷ record { form = Number Two; counts = Of 0 ∷ []; is_sum = false } ∷ []
 
 mark : ℕ → ℕ → Mark
 mark varied skip = record { varied = varied; skip = skip }

@@ -1,5 +1,6 @@
 -- Lists whose dimensions are numerals.
-use Rattle.std.proofs.Common.{◌≡◌, ℕ, ◌*◌, ◌<◌, ◌≤◌, Bool, true, false, cond, List, [], ◌∷◌, Option, Some, None, refl, sym, ap, ◌∙◌, arith, inl, inr}
+use Rattle.std.proofs.Common.{◌≡◌, ℕ, ◌*◌, ◌<◌, ◌≤◌, Bool, true, false, cond, List, [], ◌∷◌, Option, Some, None, refl}
+use Rattle.std.proofs.Common.{sym, ap, ◌∙◌, arith, inl, inr}
 use Rattle.std.specs.Prelude.{option_and_then}
 use Rattle.std.proofs.lemmas.Bool.{cases_lt, le-leb, lt-leb}
 use Rattle.std.proofs.lemmas.Option.{same_Some}
@@ -12,7 +13,8 @@ use Rattle.layout_plan.specs.Body.{item_count}
 use Rattle.layout_plan.specs.Marks.{product_by, numeral_of, are_numerals, item_size, short_list, fixed_width}
 
 -- numerals count whatever the numbers are
-pub numeral-items : (numbers : List ℕ) (counts : List Count) → are_numerals counts ≡ true → item_count numbers counts ≡ product_by numeral_of counts
+pub numeral-items : (numbers : List ℕ) (counts : List Count) → are_numerals counts ≡ true
+    → item_count numbers counts ≡ product_by numeral_of counts
 numeral-items numbers [] all = refl
 numeral-items numbers (Fixed n ∷ cs) all = ap (λ p. n * p) (numeral-items numbers cs all)
 numeral-items numbers (Of k ∷ cs) all = cc
@@ -51,10 +53,13 @@ pub record IsShortList (form : Form) (counts : List Count) (width : ℕ) : Type 
   pub same : product_by numeral_of counts * size ≡ width
   pub few : product_by numeral_of counts * size ≤ 4096
 
-pub fixed-list : (form : Form) (c : Count) (cs : List Count) (width : ℕ) → fixed_width form (c ∷ cs) ≡ Some width → IsShortList form (c ∷ cs) width
+pub fixed-list : (form : Form) (c : Count) (cs : List Count) (width : ℕ) → fixed_width form (c ∷ cs) ≡ Some width
+    → IsShortList form (c ∷ cs) width
 fixed-list form c cs width is = by (are_numerals (c ∷ cs)) refl (item_size form) refl is
   where
-    by : (b : Bool) → are_numerals (c ∷ cs) ≡ b → (o : Option ℕ) → item_size form ≡ o → cond {A = Option ℕ} b (option_and_then (short_list (product_by numeral_of (c ∷ cs))) o) None ≡ Some width → IsShortList form (c ∷ cs) width
+    by : (b : Bool) → are_numerals (c ∷ cs) ≡ b → (o : Option ℕ) → item_size form ≡ o
+        → cond {A = Option ℕ} b (option_and_then (short_list (product_by numeral_of (c ∷ cs))) o) None ≡ Some width
+        → IsShortList form (c ∷ cs) width
     by false all o sized is = cc
     by true all None sized is = cc
     by true all (Some size) sized is =

@@ -1,6 +1,8 @@
--- The bodies of a layout: a relation between fields, byte order, values, tail and bytes (LIGO-T970130 v8: a structure's elements in the order of its dictionary entry, arrays with the last dimension fastest).
+-- The bodies of a layout: a relation between fields, byte order, values, tail and bytes (LIGO-T970130 v8: a structure's
+-- elements in the order of its dictionary entry, arrays with the last dimension fastest).
 use Rattle.std.proofs.Common.{inl, inr}
-use Rattle.std.specs.Prelude.{◌≡◌, ℕ, ◌+◌, ◌*◌, ◌^◌, ◌-◌, nat_lt, if◌then◌else◌, ◌⊎◌, List, [], ◌∷◌, ◌++◌, length, map, sum_by, slice_index}
+use Rattle.std.specs.Prelude.{◌≡◌, ℕ, ◌+◌, ◌*◌, ◌^◌, ◌-◌, nat_lt, if◌then◌else◌, ◌⊎◌, List, [], ◌∷◌, ◌++◌, length, map}
+use Rattle.std.specs.Prelude.{sum_by, slice_index}
 use Rattle.scalar_types.specs.declared.Order.{Order}
 use Rattle.scalar_types.specs.declared.Width.{Width}
 use Rattle.scalar_types.specs.declared.Width.TheVariants.{One}
@@ -63,11 +65,13 @@ IsFieldBy R order numbers form (c ∷ cs) v bytes = IsListedBy R order form (ite
 abbrev pub AreFieldsBy : (List ℕ → List ℕ → Type 0) → Order → List ℕ → List Field → List Value → List ℕ → Type 0
 AreFieldsBy R order numbers [] [] bytes = bytes ≡ []
 AreFieldsBy R order numbers (f ∷ fs) (v ∷ vs) bytes =
-    (front rest : List ℕ) × (bytes ≡ front ++ rest) × IsFieldBy R order numbers f.form f.counts v front × AreFieldsBy R order numbers fs vs rest
+    (front rest : List ℕ) × (bytes ≡ front ++ rest) × IsFieldBy R order numbers f.form f.counts v front
+    × AreFieldsBy R order numbers fs vs rest
 AreFieldsBy R order numbers [] (v ∷ vs) bytes = ⊥
 AreFieldsBy R order numbers (f ∷ fs) [] bytes = ⊥
 
--- the same in a body that is read: a text may be closed by its zero byte, and the empty one spelled by a length of 0 alone
+-- the same in a body that is read: a text may be closed by its zero byte, and the empty one spelled by a length of 0
+-- alone
 abbrev pub IsSingle : Order → Form → Value → List ℕ → Type 0
 IsSingle order form v bytes = IsSingleBy (IsText order) order form v bytes
 
@@ -84,7 +88,8 @@ AreFields order numbers fields values bytes = AreFieldsBy (IsText order) order n
 abbrev pub IsTail : List ℕ → Type 0
 IsTail tail = (length tail ≡ 0) ⊎ (length tail ≡ 4)
 
--- The bytes are the spellings of the values in the order of the fields, and the tail after them. A dimension that names a field has the number that is that field's value in this same list.
+-- The bytes are the spellings of the values in the order of the fields, and the tail after them. A dimension that names
+-- a field has the number that is that field's value in this same list.
 pub record IsBody (order : Order) (fields : List Field) (values : List Value) (tail bytes : List ℕ) : Type 0 where
   pub front : List ℕ
   pub split : bytes ≡ front ++ tail
@@ -108,7 +113,8 @@ value_length Link (value.Link link) = 6
 value_length Link (value.Links xs) = length xs * 6
 value_length form v = 0
 
--- the bytes of the values where each text is closed by its zero byte: so each text spelled by a length of 0 alone takes one byte less
+-- the bytes of the values where each text is closed by its zero byte: so each text spelled by a length of 0 alone takes
+-- one byte less
 abbrev pub values_length : List Field → List Value → ℕ
 values_length (f ∷ fs) (v ∷ vs) = value_length f.form v + values_length fs vs
 values_length fields values = 0
@@ -119,37 +125,44 @@ zero_text order text bytes (inl closed) = 0
 zero_text order text bytes (inr bare) = 1
 
 -- how many of the texts are
-abbrev pub zero_texts_in : (order : Order) (texts : List (List ℕ)) (bytes : List ℕ) → AreItems (IsText order) texts bytes → ℕ
+abbrev pub zero_texts_in : (order : Order) (texts : List (List ℕ)) (bytes : List ℕ)
+    → AreItems (IsText order) texts bytes → ℕ
 zero_texts_in order [] bytes items = 0
 zero_texts_in order (text ∷ texts) bytes (front, rest, split, here, others) =
     zero_text order text front here + zero_texts_in order texts rest others
 
 -- how many texts of a field are
-abbrev pub zero_texts_single : (order : Order) (form : Form) (v : Value) (bytes : List ℕ) → IsSingle order form v bytes → ℕ
+abbrev pub zero_texts_single : (order : Order) (form : Form) (v : Value) (bytes : List ℕ)
+    → IsSingle order form v bytes → ℕ
 zero_texts_single order Text (value.Text text) bytes s = zero_text order text bytes s
 zero_texts_single order form v bytes s = 0
 
-abbrev pub zero_texts_listed : (order : Order) (form : Form) (n : ℕ) (v : Value) (bytes : List ℕ) → IsListed order form n v bytes → ℕ
+abbrev pub zero_texts_listed : (order : Order) (form : Form) (n : ℕ) (v : Value) (bytes : List ℕ)
+    → IsListed order form n v bytes → ℕ
 zero_texts_listed order Text n (value.Texts xs) bytes s = zero_texts_in order xs bytes s.items
 zero_texts_listed order form n v bytes s = 0
 
-abbrev pub zero_texts_field : (order : Order) (numbers : List ℕ) (form : Form) (counts : List Count) (v : Value) (bytes : List ℕ) → IsField order numbers form counts v bytes → ℕ
+abbrev pub zero_texts_field : (order : Order) (numbers : List ℕ) (form : Form) (counts : List Count) (v : Value)
+    (bytes : List ℕ) → IsField order numbers form counts v bytes → ℕ
 zero_texts_field order numbers form [] v bytes s = zero_texts_single order form v bytes s
 zero_texts_field order numbers form (c ∷ cs) v bytes s =
     zero_texts_listed order form (item_count numbers (c ∷ cs)) v bytes s
 
 -- how many texts of these fields are
-abbrev pub zero_texts_fields : (order : Order) (numbers : List ℕ) (fields : List Field) (values : List Value) (bytes : List ℕ) → AreFields order numbers fields values bytes → ℕ
+abbrev pub zero_texts_fields : (order : Order) (numbers : List ℕ) (fields : List Field) (values : List Value)
+    (bytes : List ℕ) → AreFields order numbers fields values bytes → ℕ
 zero_texts_fields order numbers (f ∷ fs) (v ∷ vs) bytes (front, rest, split, here, others) =
     zero_texts_field order numbers f.form f.counts v front here + zero_texts_fields order numbers fs vs rest others
 zero_texts_fields order numbers fields values bytes s = 0
 
 -- The texts of a body that are spelled by a length of 0 alone.
-abbrev pub zero_texts_of : (order : Order) (fields : List Field) (values : List Value) (tail bytes : List ℕ) → IsBody order fields values tail bytes → ℕ
+abbrev pub zero_texts_of : (order : Order) (fields : List Field) (values : List Value) (tail bytes : List ℕ)
+    → IsBody order fields values tail bytes → ℕ
 zero_texts_of order fields values tail bytes body =
     zero_texts_fields order (map number_of values) fields values body.front body.spelled
 
--- A body as `measure` tells it: its values, the number of their links, and how many of their texts are spelled by a length of 0 alone.
+-- A body as `measure` tells it: its values, the number of their links, and how many of their texts are spelled by a
+-- length of 0 alone.
 pub record IsMeasured (order : Order) (fields : List Field) (bytes : List ℕ) (links zero_texts : ℕ) : Type 0 where
   pub values : List Value
   pub tail : List ℕ

@@ -19,17 +19,23 @@ LayoutsAreSound =
 -- A body has no fault exactly where it has values and a tail.
 abbrev pub FaultOrBody : Type 0
 FaultOrBody =
-    (order : Order) (fields : List Field) (bytes : List ℕ) → AreSound 0 fields → (fault_of order fields bytes ≡ None) ↔ HasBody order fields bytes
+    (order : Order) (fields : List Field) (bytes : List ℕ) → AreSound 0 fields → (fault_of order fields bytes ≡ None)
+    ↔ HasBody order fields bytes
 
 -- A body has one list of values and one tail.
 abbrev pub BodiesAreUnique : Type 0
 BodiesAreUnique =
-    (order : Order) (fields : List Field) (bytes : List ℕ) → AreSound 0 fields → (values others : List Value) (tail end : List ℕ) → IsBody order fields values tail bytes → IsBody order fields others end bytes → (values ≡ others) × (tail ≡ end)
+    (order : Order) (fields : List Field) (bytes : List ℕ) → AreSound 0 fields
+    → (values others : List Value) (tail end : List ℕ) → IsBody order fields values tail bytes
+    → IsBody order fields others end bytes → (values ≡ others) × (tail ≡ end)
 
--- A body has as many bytes as its values take with each text closed by its zero byte, and its tail, but one less for each text that is spelled by a length of 0 alone.
+-- A body has as many bytes as its values take with each text closed by its zero byte, and its tail, but one less for
+-- each text that is spelled by a length of 0 alone.
 abbrev pub LengthsAreTold : Type 0
 LengthsAreTold =
-    (order : Order) (fields : List Field) (values : List Value) (tail bytes : List ℕ) (body : IsBody order fields values tail bytes) → length bytes + zero_texts_of order fields values tail bytes body ≡ values_length fields values + length tail
+    (order : Order) (fields : List Field) (values : List Value) (tail bytes : List ℕ)
+    (body : IsBody order fields values tail bytes)
+    → length bytes + zero_texts_of order fields values tail bytes body ≡ values_length fields values + length tail
 
 -- a front of the bytes spells the field, by the numbers of the fields before it
 abbrev pub BeginsWith : Order → List ℕ → Field → List ℕ → Type 0
@@ -60,7 +66,9 @@ pub record GoesOn (order : Order) (fields : List Field) (bytes : List ℕ) : Typ
   pub spelled : AreFields order (map number_of values) fields values front
   pub no_tail : IsTail rest → ⊥
 
--- Why the fields up to k are not followed by another: field k has no spelling, and it is short where some further bytes would give it one, a bad text where none would. Or all fields are spelled, and bytes that are no tail stand after them.
+-- Why the fields up to k are not followed by another: field k has no spelling, and it is short where some further bytes
+-- would give it one, a bad text where none would. Or all fields are spelled, and bytes that are no tail stand after
+-- them.
 abbrev pub HasFault : Order → List Field → List ℕ → ℕ → BodyReason → Type 0
 HasFault order fields bytes k BodyShort =
     (s : StopsAt order fields bytes k) × IsCutOff order (map number_of s.values) s.field s.rest
@@ -71,4 +79,5 @@ HasFault order fields bytes k BodyLong = GoesOn order fields bytes × (k ≡ len
 -- A body's fault is the first field that has no spelling, and why it has none.
 abbrev pub FaultsAreTold : Type 0
 FaultsAreTold =
-    (order : Order) (fields : List Field) (bytes : List ℕ) (fault : BodyFault) → AreSound 0 fields → (fault_of order fields bytes ≡ Some fault) ↔ HasFault order fields bytes fault.field fault.reason
+    (order : Order) (fields : List Field) (bytes : List ℕ) (fault : BodyFault) → AreSound 0 fields
+    → (fault_of order fields bytes ≡ Some fault) ↔ HasFault order fields bytes fault.field fault.reason

@@ -1,10 +1,13 @@
--- The readable layouts: an entry's elements as fields. The standard (LIGO-T970130 v8) describes a structure by the elements of its dictionary entry; a dimension may name an earlier element that holds the number of items.
-use Rattle.std.specs.Prelude.{◌≡◌, ℕ, ◌+◌, ◌<◌, ◌≤◌, Bool, true, false, ◌&&◌, if◌then◌else◌, List, [], ◌∷◌, ◌++◌, length, All, codes, Option, Some, None, option_and_then}
+-- The readable layouts: an entry's elements as fields. The standard (LIGO-T970130 v8) describes a structure by the
+-- elements of its dictionary entry; a dimension may name an earlier element that holds the number of items.
+use Rattle.std.specs.Prelude.{◌≡◌, ℕ, ◌+◌, ◌<◌, ◌≤◌, Bool, true, false, ◌&&◌, if◌then◌else◌, List, [], ◌∷◌, ◌++◌}
+use Rattle.std.specs.Prelude.{length, All, codes, Option, Some, None, option_and_then}
 use Rattle.std.specs.Option.{option_map, option_map_or}
 use Rattle.std.specs.Str.{bytes_eq}
 use Rattle.scalar_types.specs.declared.Width.TheVariants.{One, Two, Four, Eight}
 use Rattle.type_text.specs.declared.types.Base.{Base}
-use Rattle.type_text.specs.declared.types.Base.TheVariants.{Int1S, Int1U, Int2S, Int2U, Int4S, Int4U, Int8S, Int8U, Real4, Real8, Complex8, Complex16, Char, CharU, Str, Ptr}
+use Rattle.type_text.specs.declared.types.Base.TheVariants.{Int1S, Int1U, Int2S, Int2U, Int4S, Int4U, Int8S, Int8U}
+use Rattle.type_text.specs.declared.types.Base.TheVariants.{Real4, Real8, Complex8, Complex16, Char, CharU, Str, Ptr}
 use Rattle.type_text.specs.declared.types.Dim.{Dim}
 use Rattle.type_text.specs.declared.types.Dim.TheVariants.{Numeral, Named}
 use Rattle.type_text.specs.declared.types.ElementType.{ElementType}
@@ -35,7 +38,8 @@ form_of CharU = Number One
 form_of Str = Text
 form_of (Ptr to) = Link
 
--- how many items a dimension counts that names field k of this base, a whole number; none where the number is below zero
+-- how many items a dimension counts that names field k of this base, a whole number; none where the number is below
+-- zero
 abbrev pub counted_by : ℕ → Base → Option Count
 counted_by k Int1S = Some (OfSigned k One)
 counted_by k Int1U = Some (Of k)
@@ -59,7 +63,8 @@ counted_by_type k ty = if has_no_dims ty.dims then counted_by k ty.base else Non
 abbrev pub named_count : ℕ × Element → Option Count
 named_count p = option_and_then (counted_by_type p.0) p.1.ty
 
--- the count of a dimension with this name: by the first of the elements that has the name, where a dimension may name it
+-- the count of a dimension with this name: by the first of the elements that has the name, where a dimension may name
+-- it
 abbrev pub count_in : List Element → List ℕ → Option Count
 count_in earlier name = option_and_then named_count (first_named 0 earlier name)
 
@@ -81,7 +86,8 @@ is_int_4u base = false
 
 abbrev pub is_check_sum : Element → Bool
 is_check_sum e =
-    bytes_eq e.name (codes "chkSum") && option_map_or (λ (ty : ElementType). is_int_4u ty.base && has_no_dims ty.dims) e.ty false
+    bytes_eq e.name (codes "chkSum")
+    && option_map_or (λ (ty : ElementType). is_int_4u ty.base && has_no_dims ty.dims) e.ty false
 
 -- it is the check sum of the structure where no element comes after it
 abbrev pub is_last : List Element → Bool
@@ -101,7 +107,8 @@ field_of named last e = option_and_then (field_of_type named (last && is_check_s
 abbrev pub fields_after : List Element → List Element → Option (List Field)
 fields_after earlier [] = Some []
 fields_after earlier (e ∷ es) =
-    option_and_then (λ f. option_map (λ fs. f ∷ fs) (fields_after (earlier ++ e ∷ []) es)) (field_of (count_in earlier) (is_last es) e)
+    option_and_then (λ f. option_map (λ fs. f ∷ fs) (fields_after (earlier ++ e ∷ []) es))
+    (field_of (count_in earlier) (is_last es) e)
 
 -- The fields of the elements of an entry, where the layout is readable.
 unfoldable pub layout_of : List Element → Option (List Field)
@@ -123,7 +130,8 @@ abbrev pub AreSums : List Field → Type 0
 AreSums [] = Unit {0}
 AreSums (f ∷ fs) = (f.is_sum ≡ true → (f.form ≡ Number Four) × (f.counts ≡ []) × (fs ≡ [])) × AreSums fs
 
--- What the fields of a layout have: each dimension names an earlier field, or none; the last field alone may be a check sum; and there are at most 4,096.
+-- What the fields of a layout have: each dimension names an earlier field, or none; the last field alone may be a check
+-- sum; and there are at most 4,096.
 pub record IsLayout (fields : List Field) : Type 0 where
   pub sound : AreSound 0 fields
   pub sums : AreSums fields

@@ -14,7 +14,8 @@ use Rattle.layout_plan.specs.Reading.{field_in}
 -- The first k fields end at this place of the body: the bytes before it spell their values.
 abbrev pub EndsAt : Order → List Field → List ℕ → ℕ → ℕ → Type 0
 EndsAt order fields bytes k end =
-    (values : List Value) (tail : List ℕ) → IsBody order fields values tail bytes → AreFields order (map number_of values) (take k fields) (take k values) (take end bytes)
+    (values : List Value) (tail : List ℕ) → IsBody order fields values tail bytes
+    → AreFields order (map number_of values) (take k fields) (take k values) (take end bytes)
 
 -- The body's values have this one at field k.
 abbrev pub HasValueAt : Order → List Field → List ℕ → ℕ → Value → Type 0
@@ -50,7 +51,8 @@ pub record IsPlaced (order : Order) (fields : List Field) (bytes : List ℕ) (k 
   pub numbers : List ℕ
   pub is : slice_get fields k ≡ Some field
   pub here : HasValueAt order fields bytes k value
-  pub found : field_in order numbers field.form field.counts (drop p.start bytes) ≡ Ok (value, drop (p.start + p.length) bytes)
+  pub found : field_in order numbers field.form field.counts (drop p.start bytes)
+      ≡ Ok (value, drop (p.start + p.length) bytes)
   pub within : p.start + p.length ≤ length bytes
   pub begins : EndsAt order fields bytes k p.start
   pub ends : EndsAt order fields bytes (k + 1) (p.start + p.length)

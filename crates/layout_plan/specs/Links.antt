@@ -1,5 +1,7 @@
--- The links of a body: in the order of its fields, and within a field in the order of its items (LIGO-T970130 v8, PTR_STRUCT).
-use Rattle.std.specs.Prelude.{◌≡◌, ℕ, ◌+◌, ◌≤◌, ◌<◌, Bool, true, false, List, [], ◌∷◌, ◌++◌, length, map, take, drop, slice_get, slice_set, Some, Ok}
+-- The links of a body: in the order of its fields, and within a field in the order of its items (LIGO-T970130 v8,
+-- PTR_STRUCT).
+use Rattle.std.specs.Prelude.{◌≡◌, ℕ, ◌+◌, ◌≤◌, ◌<◌, Bool, true, false, List, [], ◌∷◌, ◌++◌, length, map, take, drop}
+use Rattle.std.specs.Prelude.{slice_get, slice_set, Some, Ok}
 use Rattle.scalar_types.specs.declared.Order.{Order}
 use Rattle.type_text.specs.declared.types.Link.{Link as StructLink}
 use Rattle.record_values.specs.declared.values.Value.{Value}
@@ -30,12 +32,14 @@ HasLink order fields bytes k =
 -- The body's link of this number, from 0, is this one.
 abbrev pub HasLinkAt : Order → List Field → List ℕ → ℕ → StructLink → Type 0
 HasLinkAt order fields bytes k link =
-    (values : List Value) (tail : List ℕ) → IsBody order fields values tail bytes → slice_get (links_in values) k ≡ Some link
+    (values : List Value) (tail : List ℕ) → IsBody order fields values tail bytes
+    → slice_get (links_in values) k ≡ Some link
 
 -- The body's link of this number, from 0, is one of field i.
 abbrev pub HasLinkIn : Order → List Field → List ℕ → ℕ → ℕ → Type 0
 HasLinkIn order fields bytes k i =
-    (values : List Value) (tail : List ℕ) → IsBody order fields values tail bytes → (link : StructLink) × (slice_get (field_links 0 values) k ≡ Some (record { field = i; link = link }))
+    (values : List Value) (tail : List ℕ) → IsBody order fields values tail bytes → (link : StructLink)
+    × (slice_get (field_links 0 values) k ≡ Some (record { field = i; link = link }))
 
 -- The body has so many links.
 abbrev pub HasLinks : Order → List Field → List ℕ → ℕ → Type 0
@@ -45,12 +49,17 @@ HasLinks order fields bytes n =
 -- where the body's link of this number stands, and the field that holds it
 abbrev pub IsLinkPlaced : Order → List Field → List ℕ → ℕ → LinkPlace → Type 0
 IsLinkPlaced order fields bytes k p =
-    (values : List Value) (tail : List ℕ) → IsBody order fields values tail bytes → (link : StructLink) × (slice_get (field_links 0 values) k ≡ Some (record { field = p.field; link = link })) × (link_in order (drop p.at bytes) ≡ Ok (link, drop (p.at + 6) bytes)) × (p.at + 6 ≤ length bytes)
+    (values : List Value) (tail : List ℕ) → IsBody order fields values tail bytes → (link : StructLink)
+    × (slice_get (field_links 0 values) k ≡ Some (record { field = p.field; link = link }))
+    × (link_in order (drop p.at bytes) ≡ Ok (link, drop (p.at + 6) bytes)) × (p.at + 6 ≤ length bytes)
 
--- Six bytes of the body from this place spell its link of this number, from 0: with the bytes of another link in their place it is a body of the same values, but for that link.
+-- Six bytes of the body from this place spell its link of this number, from 0: with the bytes of another link in their
+-- place it is a body of the same values, but for that link.
 abbrev pub IsReplaceable : Order → List Field → List ℕ → ℕ → ℕ → Type 0
 IsReplaceable order fields bytes k at =
-    (values : List Value) (tail : List ℕ) → IsBody order fields values tail bytes → (link : StructLink) (six : List ℕ) → IsLink order link six → IsBody order fields (linked values (slice_set (links_in values) k link)) tail (take at bytes ++ six ++ drop (at + 6) bytes)
+    (values : List Value) (tail : List ℕ) → IsBody order fields values tail bytes → (link : StructLink) (six : List ℕ)
+    → IsLink order link six → IsBody order fields (linked values (slice_set (links_in values) k link)) tail
+    (take at bytes ++ six ++ drop (at + 6) bytes)
 
 -- These are the body's links, in turn, each with the number of its field.
 abbrev pub AreLinks : Order → List Field → List ℕ → List FieldLink → Type 0

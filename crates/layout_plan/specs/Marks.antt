@@ -1,5 +1,7 @@
--- Of the inside. Where fields stand: marks that tell a field's place from the ends of the fields whose bytes a body alone tells.
-use Rattle.std.specs.Prelude.{ℕ, zero, suc, ◌+◌, ◌-◌, ◌*◌, ◌^◌, min, nat_le, Bool, true, false, option_and_then, if◌then◌else◌, List, [], ◌∷◌, Option, Some, None, is_none, slice_index}
+-- Of the inside. Where fields stand: marks that tell a field's place from the ends of the fields whose bytes a body
+-- alone tells.
+use Rattle.std.specs.Prelude.{ℕ, zero, suc, ◌+◌, ◌-◌, ◌*◌, ◌^◌, min, nat_le, Bool, true, false, option_and_then}
+use Rattle.std.specs.Prelude.{if◌then◌else◌, List, [], ◌∷◌, Option, Some, None, is_none, slice_index}
 use Rattle.scalar_types.specs.Number.{size_of}
 use Rattle.layout_plan.specs.declared.fields.Form.{Form}
 use Rattle.layout_plan.specs.declared.fields.Form.TheVariants.{Number, Pair, Text, Link}
@@ -45,7 +47,8 @@ short_list n size = if nat_le (n * size) 4096 then Some (n * size) else None
 abbrev pub fixed_width : Form → List Count → Option ℕ
 fixed_width form [] = item_size form
 fixed_width form (c ∷ cs) =
-    if are_numerals (c ∷ cs) then option_and_then (short_list (product_by numeral_of (c ∷ cs))) (item_size form) else None
+    if are_numerals (c ∷ cs)
+    then option_and_then (short_list (product_by numeral_of (c ∷ cs))) (item_size form) else None
 
 -- a varied field: a text, a long list or one that numbers count
 abbrev pub is_varied : Field → Bool
@@ -57,7 +60,8 @@ numbers_where such i [] = []
 numbers_where such i (f ∷ fs) =
     if such f then i ∷ numbers_where such (i + 1) fs else numbers_where such (i + 1) fs
 
--- the mark after a field of this width: the same varied fields stand before it, and so many more bytes; or one more varied field
+-- the mark after a field of this width: the same varied fields stand before it, and so many more bytes; or one more
+-- varied field
 abbrev pub past : Mark → Option ℕ → Mark
 past mark (Some width) = record { varied = mark.varied; skip = mark.skip + width }
 past mark None = record { varied = mark.varied + 1; skip = 0 }

@@ -1,5 +1,6 @@
 -- What a body's bytes hold, field by field, or the fault at the first field without a spelling.
-use Rattle.std.specs.Prelude.{ℕ, zero, suc, ◌==◌, ◌||◌, nat_le, if◌then◌else◌, List, [], ◌∷◌, ◌++◌, length, take, drop, slice_index, Option, Result, Ok, Err}
+use Rattle.std.specs.Prelude.{ℕ, zero, suc, ◌==◌, ◌||◌, nat_le, if◌then◌else◌, List, [], ◌∷◌, ◌++◌, length, take, drop}
+use Rattle.std.specs.Prelude.{slice_index, Option, Result, Ok, Err}
 use Rattle.std.specs.Result.{result_err}
 use Rattle.scalar_types.specs.declared.Order.{Order}
 use Rattle.scalar_types.specs.declared.Width.{Width}
@@ -60,7 +61,8 @@ text_in order bytes = and_then (number_in order Two bytes) text_of_length
 -- a link
 abbrev pub link_in : Order → List ℕ → Found StructLink
 link_in order bytes =
-    and_then (number_in order Two bytes) (λ class. found_map (λ n. record { class = class.0; instance = n }) (number_in order Four class.1))
+    and_then (number_in order Two bytes)
+    (λ class. found_map (λ n. record { class = class.0; instance = n }) (number_in order Four class.1))
 
 -- so many items
 unfoldable pub items_in : {X : Type 0} → (List ℕ → Found X) → ℕ → List ℕ → Found (List X)
@@ -96,7 +98,8 @@ at_field i (Err reason) = Err (record { field = i; reason = reason })
 abbrev pub fields_in : Order → List ℕ → List Field → List ℕ → Result (List Value × List ℕ) BodyFault
 fields_in order numbers [] bytes = Ok ([], bytes)
 fields_in order numbers (f ∷ fs) bytes =
-    and_then (at_field (length numbers) (field_in order numbers f.form f.counts bytes)) (λ v. found_map (λ vs. v.0 ∷ vs) (fields_in order (numbers ++ number_of v.0 ∷ []) fs v.1))
+    and_then (at_field (length numbers) (field_in order numbers f.form f.counts bytes))
+    (λ v. found_map (λ vs. v.0 ∷ vs) (fields_in order (numbers ++ number_of v.0 ∷ []) fs v.1))
 
 -- the values of n fields, where no bytes or four stand after them
 abbrev pub ended : ℕ → List Value × List ℕ → Result (List Value × List ℕ) BodyFault

@@ -26,17 +26,20 @@ BeginsText order bytes =
 -- the text at the front of the bytes has so many, and the new bytes spell it closed in little-endian order
 abbrev pub RespellsText : Order → List ℕ → ℕ → List ℕ → Type 0
 RespellsText order bytes size new =
-    (text front rest : List ℕ) → bytes ≡ front ++ rest → IsText order text front → (size ≡ length front) × IsClosedText Little text new
+    (text front rest : List ℕ) → bytes ≡ front ++ rest → IsText order text front → (size ≡ length front)
+    × IsClosedText Little text new
 
 -- the bytes spell a value that has no more links than these
 abbrev pub SpellsFew : Order → Form → List Count → List ℕ → List Link → Type 0
 SpellsFew order form counts bytes links =
     (numbers : List ℕ) × (v : Value) × IsField order numbers form counts v bytes × (length (links_of v) ≤ length links)
 
--- the new bytes spell in little-endian order the value that the bytes spell, with the first of these links, as many as it has, in place of its own, and each text closed
+-- the new bytes spell in little-endian order the value that the bytes spell, with the first of these links, as many as
+-- it has, in place of its own, and each text closed
 abbrev pub RespellsForm : Order → Form → List Count → List ℕ → List Link → ℕ → List ℕ → Type 0
 RespellsForm order form counts bytes links used new =
-    (numbers : List ℕ) (v : Value) → IsField order numbers form counts v bytes → (used ≡ length (links_of v)) × IsFieldBy (IsClosedText Little) Little numbers form counts (linked_value v (take used links)) new
+    (numbers : List ℕ) (v : Value) → IsField order numbers form counts v bytes → (used ≡ length (links_of v))
+    × IsFieldBy (IsClosedText Little) Little numbers form counts (linked_value v (take used links)) new
 
 -- a check sum is a number of four bytes
 abbrev pub IsSumNumber : Field → Type 0
@@ -45,4 +48,6 @@ IsSumNumber f = f.is_sum ≡ true → (f.form ≡ Number Four) × (f.counts ≡ 
 -- the same of a field, with 0 in place of a check sum
 abbrev pub RespellsField : Order → Field → List ℕ → List Link → ℕ → List ℕ → Type 0
 RespellsField order f bytes links used new =
-    (numbers : List ℕ) (v : Value) → IsField order numbers f.form f.counts v bytes → (used ≡ length (links_of v)) × IsFieldBy (IsClosedText Little) Little numbers f.form f.counts (linked_value (if f.is_sum then value.Num 0 else v) (take used links)) new
+    (numbers : List ℕ) (v : Value) → IsField order numbers f.form f.counts v bytes → (used ≡ length (links_of v))
+    × IsFieldBy (IsClosedText Little) Little numbers f.form f.counts
+    (linked_value (if f.is_sum then value.Num 0 else v) (take used links)) new

@@ -1,5 +1,6 @@
 -- Of the inside. The steps of a walk over the varied fields, made of the fields once.
-use Rattle.std.specs.Prelude.{◌≡◌, ◌≤◌, ℕ, true, All, ◌+◌, ◌-◌, ◌*◌, ◌^◌, min, List, [], ◌∷◌, ◌++◌, length, map, take, drop, slice_get, Option, Some, None, option_and_then}
+use Rattle.std.specs.Prelude.{◌≡◌, ◌≤◌, ℕ, true, All, ◌+◌, ◌-◌, ◌*◌, ◌^◌, min, List, [], ◌∷◌, ◌++◌, length, map, take}
+use Rattle.std.specs.Prelude.{drop, slice_get, Option, Some, None, option_and_then}
 use Rattle.std.specs.Option.{option_map_or}
 use Rattle.scalar_types.specs.declared.Order.{Order}
 use Rattle.scalar_types.specs.declared.Width.{Width}
@@ -17,7 +18,8 @@ use Rattle.layout_plan.specs.declared.steps.Step.{Step}
 use Rattle.layout_plan.specs.Layout.{IsLayout}
 use Rattle.layout_plan.specs.Links.{is_link}
 use Rattle.layout_plan.specs.Body.{signed_count}
-use Rattle.layout_plan.specs.Marks.{product_by, factor_of, is_varied, numbers_where, first_mark, marks_from, mark_of, place_of}
+use Rattle.layout_plan.specs.Marks.{product_by, factor_of, is_varied, numbers_where, first_mark, marks_from, mark_of}
+use Rattle.layout_plan.specs.Marks.{place_of}
 
 -- the width of one number
 abbrev pub single_width : Form → List Count → Option Width
@@ -52,7 +54,13 @@ counters_of fields (c ∷ cs) = counters_by fields c ++ counters_of fields cs
 -- the step of field k
 abbrev pub step_of : List Field → ℕ → Field → Step
 step_of fields k f =
-    record { field = k; mark = mark_of fields k; items = items_of f.form f.counts; factor = factor_of f.counts; counters = counters_of fields f.counts }
+    record {
+      field = k;
+      mark = mark_of fields k;
+      items = items_of f.form f.counts;
+      factor = factor_of f.counts;
+      counters = counters_of fields f.counts;
+    }
 
 abbrev pub no_step : Step
 no_step = record { field = 0; mark = first_mark; items = OneText; factor = 0; counters = [] }

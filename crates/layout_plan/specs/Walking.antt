@@ -25,15 +25,18 @@ pub record IsReached (order : Order) (fields : List Field) (body : List ℕ) (k 
 -- the first k fields and the place after them are where their marks tell
 pub record ArePlaces (order : Order) (fields : List Field) (body : List ℕ) (k : ℕ) (ends : List ℕ) : Type 0 where
   pub room : (mark_of fields k).varied ≤ length ends
-  pub reached : (i : ℕ) → i ≤ k → (zero_texts : ℕ) × IsReached order fields body i (place_of ends (mark_of fields i)) zero_texts
+  pub reached : (i : ℕ) → i ≤ k → (zero_texts : ℕ)
+      × IsReached order fields body i (place_of ends (mark_of fields i)) zero_texts
 
 -- the numbers of the first k fields
 abbrev pub AreNumbers : Order → List Field → List ℕ → ℕ → List ℕ → Type 0
 AreNumbers order fields body k numbers =
-    (values : List Value) × (rest : List ℕ) × (fields_in order [] (take k fields) body ≡ Ok (values, rest)) × (numbers ≡ map number_of values)
+    (values : List Value) × (rest : List ℕ) × (fields_in order [] (take k fields) body ≡ Ok (values, rest))
+    × (numbers ≡ map number_of values)
 
 -- the first of the varied fields are walked over: the last of them stands before field `next`, and their ends are known
-pub record IsWalked (order : Order) (fields : List Field) (body : List ℕ) (varied : ℕ) (ends : List ℕ) (zero_texts : ℕ) : Type 0 where
+pub record IsWalked (order : Order) (fields : List Field) (body : List ℕ) (varied : ℕ) (ends : List ℕ)
+    (zero_texts : ℕ) : Type 0 where
   pub next : ℕ
   pub few : next ≤ length fields
   pub mark : mark_of fields next ≡ record { varied = varied; skip = 0 }
@@ -45,7 +48,8 @@ abbrev pub HasWalked : List Field → List ℕ → ℕ → List ℕ → Type 0
 HasWalked fields body varied ends =
     (order : Order) × (zero_texts : ℕ) × IsWalked order fields body varied ends zero_texts
 
--- the first k fields have values, and those before number `known` are where their marks tell; or one of the fields has the fault
+-- the first k fields have values, and those before number `known` are where their marks tell; or one of the fields has
+-- the fault
 abbrev pub TellsReached : Order → List Field → List ℕ → ℕ → ℕ → List ℕ → Result Walked BodyFault → Type 0
 TellsReached order fields body k known ends (Ok w) =
     IsReached order fields body k w.at w.zero_texts × ArePlaces order fields body known ends

@@ -1,4 +1,5 @@
--- Bodies as they are written: in which each text, the empty one too, has its closing zero byte, and no tail stands after the fields (LIGO-T970130 v8: STRING).
+-- Bodies as they are written: in which each text, the empty one too, has its closing zero byte, and no tail stands
+-- after the fields (LIGO-T970130 v8: STRING).
 use Rattle.std.specs.Prelude.{◌≡◌, ℕ, if◌then◌else◌, List, [], ◌∷◌, length, map, Ok}
 use Rattle.scalar_types.specs.declared.Order.{Order}
 use Rattle.scalar_types.specs.declared.Order.TheVariants.{Little}
@@ -16,7 +17,8 @@ abbrev pub AreClosedFields : Order → List ℕ → List Field → List Value �
 AreClosedFields order numbers fields values bytes =
     AreFieldsBy (IsClosedText order) order numbers fields values bytes
 
--- What is written of these values: a body without a tail; each text in it has its closing zero byte; it has as many bytes as the values take then; and reading it gives the values again.
+-- What is written of these values: a body without a tail; each text in it has its closing zero byte; it has as many
+-- bytes as the values take then; and reading it gives the values again.
 pub record IsWritten (order : Order) (fields : List Field) (values : List Value) (bytes : List ℕ) : Type 0 where
   pub body : IsBody order fields values [] bytes
   pub closed : AreClosedFields order (map number_of values) fields values bytes
@@ -28,7 +30,9 @@ abbrev pub cleared : List Field → List Value → List Value
 cleared (f ∷ fs) (v ∷ vs) = (if f.is_sum then value.Num 0 else v) ∷ cleared fs vs
 cleared fields values = values
 
--- What is written again of a body: its values in little-endian order, with 0 for the check sum and these links in place of its own.
+-- What is written again of a body: its values in little-endian order, with 0 for the check sum and these links in place
+-- of its own.
 abbrev pub IsRewritten : Order → List Field → List ℕ → List Link → List ℕ → Type 0
 IsRewritten order fields body links bytes =
-    (values : List Value) (tail : List ℕ) → IsBody order fields values tail body → IsWritten Little fields (linked (cleared fields values) links) bytes
+    (values : List Value) (tail : List ℕ) → IsBody order fields values tail body
+    → IsWritten Little fields (linked (cleared fields values) links) bytes

@@ -1,5 +1,7 @@
--- One frame being collected: its records with their bodies, its end record, and the body that is still to be given to one of them.
-use Rattle.std.specs.Prelude.{◌≡◌, ℕ, ◌==◌, ◌&&◌, Bool, true, false, if◌then◌else◌, List, [], ◌∷◌, ◌++◌, map, position, is_some, Option, Some, None}
+-- One frame being collected: its records with their bodies, its end record, and the body that is still to be given to
+-- one of them.
+use Rattle.std.specs.Prelude.{◌≡◌, ℕ, ◌==◌, ◌&&◌, Bool, true, false, if◌then◌else◌, List, [], ◌∷◌, ◌++◌, map, position}
+use Rattle.std.specs.Prelude.{is_some, Option, Some, None}
 use Rattle.scalar_types.specs.declared.Order.{Order}
 use Rattle.type_text.specs.declared.types.Link.{Link}
 use Rattle.link_graph.specs.declared.nodes.Root.{Root}

@@ -1,6 +1,7 @@
 //! The records kept, in order, and found by class and instance.
 
-ghost use Rattle.std.specs.Prelude.{◌≡◌, ◌<◌, ◌≤◌, [], ◌++◌, ◌∷◌, None, Some, length, map, slice_get, OnOk, OnErr};
+ghost use Rattle.std.specs.Prelude.{◌≡◌, ◌<◌, ◌≤◌, [], ◌++◌, ◌∷◌, None, Some, length, map, slice_get, OnOk};
+ghost use Rattle.std.specs.Prelude.{OnErr};
 ghost use Rattle.link_graph.specs.Collected.{link_to, without_stat_root};
 ghost use Rattle.link_graph.specs.Kept.{number_in, without_stat_kept};
 

@@ -1,8 +1,10 @@
 //! A frame's records as they are collected.
 
-ghost use Rattle.std.specs.Prelude.{◌≡◌, ◌+◌, ◌-◌, ◌<◌, ◌≤◌, ◌↔◌, [], ◌++◌, None, Some, length, map, slice_get, IfOk, IfSome, OnOk, OnErr, IsErrOf, IsTrue};
+ghost use Rattle.std.specs.Prelude.{◌≡◌, ◌+◌, ◌-◌, ◌<◌, ◌≤◌, ◌↔◌, [], ◌++◌, None, Some, length, map, slice_get};
+ghost use Rattle.std.specs.Prelude.{IfOk, IfSome, OnOk, OnErr, IsErrOf, IsTrue};
 ghost use Rattle.std.specs.Option.{option_map, option_copied, option_map_or};
-ghost use Rattle.link_graph.specs.Collected.{Collected, Bodied, Becomes, nothing_in, with_node, with_end, without_stat, target_of, is_held};
+ghost use Rattle.link_graph.specs.Collected.{Collected, Bodied, Becomes, nothing_in, with_node, with_end};
+ghost use Rattle.link_graph.specs.Collected.{without_stat, target_of, is_held};
 ghost use Rattle.link_graph.specs.Relinked.{HasLinkBy, SetsLink, IsLinkOf};
 
 use crate::links::link_bytes;

@@ -135,7 +135,8 @@ fn set_link(segment: &mut Segment, plans: &Plans, node: u32, k: u32, to: Link) -
 /// Whether there is such a record, it reads by its plan, and it has a link of this number.
 fn has_link(segment: &Segment, plans: &Plans, node: u32, k: u32) -> bool
     ensures within { IsTrue result → node < length segment.now.nodes }
-    ensures link { IsTrue result → IfSome (slice_get segment.now.nodes node) (HasLinkBy plans.now segment.now.order k) }
+    ensures link { IsTrue result
+        → IfSome (slice_get segment.now.nodes node) (HasLinkBy plans.now segment.now.order k) }
 {
     if node >= segment.len() {
         return false;

@@ -8,4 +8,5 @@ use Rattle.layout_plan.proofs.links.link_place_in.Given as goal
 -- the link is the one left of the other fields
 abbrev pub invariant-loop-field : goal.invariant-loop-field
 invariant-loop-field l =
-    (values : List Value) (tail : List ℕ) → IsBody l.fn.order l.plan values tail l.body → l.k ≡ length (flat_map (links_at values) (take l.field-index l.field-items)) + l.left
+    (values : List Value) (tail : List ℕ) → IsBody l.fn.order l.plan values tail l.body
+    → l.k ≡ length (flat_map (links_at values) (take l.field-index l.field-items)) + l.left

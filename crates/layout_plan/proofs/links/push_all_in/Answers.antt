@@ -6,50 +6,88 @@ use Rattle.layout_plan.proofs.links.push_all_in.Goals as goal
 
 pub place_by-here-requires-clause-field : goal.place_by-here-requires-clause-field
 place_by-here-requires-clause-field c =
-    link-within c.args.plan.now c.links-field-items.result.now c.loop-field.field-index c.links-field-items.ensures c.loop-field-test.true
+    link-within c.args.plan.now c.links-field-items.result.now c.loop-field.field-index c.links-field-items.ensures
+    c.loop-field-test.true
 
 pub place_by-here-requires-clause-places : goal.place_by-here-requires-clause-places
-place_by-here-requires-clause-places c =
-    (c.args.order, c.args.body.now, link-places c.args.order c.args.plan.now c.args.body.now c.links-field-items.result.now c.loop-field.field-index (length c.fields.result.now) c.walk_body.new.ends c.links-field-items.ensures c.loop-field-test.true (ap length c.fields.ensures.fields) c.walk_body.ensures, omega arith)
+place_by-here-requires-clause-places c = (
+  c.args.order,
+  c.args.body.now,
+  link-places c.args.order c.args.plan.now c.args.body.now c.links-field-items.result.now c.loop-field.field-index
+      (length c.fields.result.now) c.walk_body.new.ends c.links-field-items.ensures c.loop-field-test.true
+      (ap length c.fields.ensures.fields) c.walk_body.ensures,
+  omega arith,
+)
 
 pub slice_bounds-rest-count : goal.slice_bounds-rest-count
 slice_bounds-rest-count c =
     let items = c.links-field-items.result.now in
     let j = c.loop-field.field-index in
-    let places = link-places c.args.order c.args.plan.now c.args.body.now items j (length c.fields.result.now) c.walk_body.new.ends c.links-field-items.ensures c.loop-field-test.true (ap length c.fields.ensures.fields) c.walk_body.ensures in
-    let list = link-list c.args.order c.args.plan.now c.args.body.now items j c.place_by-here.result c.links-field-items.ensures c.loop-field-test.true (c.place_by-here.ensures c.args.order c.args.body.now places) in
+    let places = link-places c.args.order c.args.plan.now c.args.body.now items j (length c.fields.result.now)
+    c.walk_body.new.ends c.links-field-items.ensures c.loop-field-test.true (ap length c.fields.ensures.fields)
+    c.walk_body.ensures in
+    let list = link-list c.args.order c.args.plan.now c.args.body.now items j c.place_by-here.result
+    c.links-field-items.ensures c.loop-field-test.true
+    (c.place_by-here.ensures c.args.order c.args.body.now places) in
     omega (arith, list.within)
 
 pub slice_bounds-rest-start : goal.slice_bounds-rest-start
 slice_bounds-rest-start c =
     let items = c.links-field-items.result.now in
     let j = c.loop-field.field-index in
-    let places = link-places c.args.order c.args.plan.now c.args.body.now items j (length c.fields.result.now) c.walk_body.new.ends c.links-field-items.ensures c.loop-field-test.true (ap length c.fields.ensures.fields) c.walk_body.ensures in
-    let list = link-list c.args.order c.args.plan.now c.args.body.now items j c.place_by-here.result c.links-field-items.ensures c.loop-field-test.true (c.place_by-here.ensures c.args.order c.args.body.now places) in
+    let places = link-places c.args.order c.args.plan.now c.args.body.now items j (length c.fields.result.now)
+    c.walk_body.new.ends c.links-field-items.ensures c.loop-field-test.true (ap length c.fields.ensures.fields)
+    c.walk_body.ensures in
+    let list = link-list c.args.order c.args.plan.now c.args.body.now items j c.place_by-here.result
+    c.links-field-items.ensures c.loop-field-test.true
+    (c.place_by-here.ensures c.args.order c.args.body.now places) in
     omega (arith, list.within)
 
 pub slice_bounds-push_field-end : goal.slice_bounds-push_field-end
 slice_bounds-push_field-end c =
     let items = c.links-field-items.result.now in
     let j = c.loop-field.field-index in
-    let places = link-places c.args.order c.args.plan.now c.args.body.now items j (length c.fields.result.now) c.walk_body.new.ends c.links-field-items.ensures c.loop-field-test.true (ap length c.fields.ensures.fields) c.walk_body.ensures in
-    let list = link-list c.args.order c.args.plan.now c.args.body.now items j c.place_by-here.result c.links-field-items.ensures c.loop-field-test.true (c.place_by-here.ensures c.args.order c.args.body.now places) in
-    let size = ap length (take_rest c.args.body.now c.place_by-here.result.start) ∙ length-drop c.place_by-here.result.start c.args.body.now in
-    let room : c.place_by-here.result.length ≤ length (take (length c.args.body.now - c.place_by-here.result.start) (drop c.place_by-here.result.start c.args.body.now)) = omega (arith, list.within, size) in
-    omega (arith, room, length-take-le c.place_by-here.result.length (take (length c.args.body.now - c.place_by-here.result.start) (drop c.place_by-here.result.start c.args.body.now)) room)
+    let places = link-places c.args.order c.args.plan.now c.args.body.now items j (length c.fields.result.now)
+    c.walk_body.new.ends c.links-field-items.ensures c.loop-field-test.true (ap length c.fields.ensures.fields)
+    c.walk_body.ensures in
+    let list = link-list c.args.order c.args.plan.now c.args.body.now items j c.place_by-here.result
+    c.links-field-items.ensures c.loop-field-test.true
+    (c.place_by-here.ensures c.args.order c.args.body.now places) in
+    let size = ap length (take_rest c.args.body.now c.place_by-here.result.start)
+    ∙ length-drop c.place_by-here.result.start c.args.body.now in
+    let room : c.place_by-here.result.length
+    ≤ length (take (length c.args.body.now - c.place_by-here.result.start)
+    (drop c.place_by-here.result.start c.args.body.now)) = omega (arith, list.within, size) in
+    omega (
+      arith,
+      room,
+      length-take-le c.place_by-here.result.length
+          (take (length c.args.body.now - c.place_by-here.result.start)
+          (drop c.place_by-here.result.start c.args.body.now)) room,
+    )
 
 pub loop-field-preserved : goal.loop-field-preserved
 loop-field-preserved c =
     let items = c.links-field-items.result.now in
     let j = c.loop-field.field-index in
-    let places = link-places c.args.order c.args.plan.now c.args.body.now items j (length c.fields.result.now) c.walk_body.new.ends c.links-field-items.ensures c.loop-field-test.true (ap length c.fields.ensures.fields) c.walk_body.ensures in
-    let list = link-list c.args.order c.args.plan.now c.args.body.now items j c.place_by-here.result c.links-field-items.ensures c.loop-field-test.true (c.place_by-here.ensures c.args.order c.args.body.now places) in
-    Appends-more _ _ _ _ c.loop-field.into.items _ c.loop-field.invariant c.in_ok-push_field.ensures (λ xs ys r s. fields-links-more c.args.order c.args.plan.now c.args.body.now items j c.place_by-here.result (length c.args.body.now - c.place_by-here.result.start) xs ys c.loop-field-test.true list r s (omega (arith, list.within)))
+    let places = link-places c.args.order c.args.plan.now c.args.body.now items j (length c.fields.result.now)
+    c.walk_body.new.ends c.links-field-items.ensures c.loop-field-test.true (ap length c.fields.ensures.fields)
+    c.walk_body.ensures in
+    let list = link-list c.args.order c.args.plan.now c.args.body.now items j c.place_by-here.result
+    c.links-field-items.ensures c.loop-field-test.true
+    (c.place_by-here.ensures c.args.order c.args.body.now places) in
+    Appends-more _ _ _ _ c.loop-field.into.items _ c.loop-field.invariant c.in_ok-push_field.ensures
+    (λ xs ys r s. fields-links-more c.args.order c.args.plan.now c.args.body.now items j c.place_by-here.result
+    (length c.args.body.now - c.place_by-here.result.start) xs ys c.loop-field-test.true list r s
+    (omega (arith, list.within)))
 
 pub returns-in_err-push_field : goal.returns-in_err-push_field
 returns-in_err-push_field c =
-    Appends-refused _ _ _ _ _ c.loop-field.into.items _ c.from_residual.ensures.0 c.loop-field.invariant c.push_field.ensures
+    Appends-refused _ _ _ _ _ c.loop-field.into.items _ c.from_residual.ensures.0 c.loop-field.invariant
+    c.push_field.ensures
 
 pub returns : goal.returns
 returns c =
-    Appends-as _ _ _ _ c.loop-field.invariant (λ xs r. fields-links-all c.args.order c.args.plan.now c.args.body.now c.links-field-items.result.now c.loop-field.field-index xs c.links-field-items.ensures c.loop-field-test.false r)
+    Appends-as _ _ _ _ c.loop-field.invariant
+    (λ xs r. fields-links-all c.args.order c.args.plan.now c.args.body.now c.links-field-items.result.now
+    c.loop-field.field-index xs c.links-field-items.ensures c.loop-field-test.false r)

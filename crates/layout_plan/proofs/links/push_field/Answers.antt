@@ -9,12 +9,26 @@ use Rattle.layout_plan.proofs.links.push_field.Goals as goal
 pub loop-i-preserved : goal.loop-i-preserved
 loop-i-preserved c =
     let read = ap (link_in c.args.order) (sym (take_rest c.args.bytes.now (c.loop-i.i * 6))) ∙ c.link_of.ensures in
-    Appends-more _ (λ (ys : List FieldLink). ys ≡ record { field = c.args.field; link = c.link_of.result } ∷ []) _ _ c.loop-i.into.items _ c.loop-i.invariant (record { items = record { field = c.args.field; link = c.link_of.result } ∷ []; whole = c.in_ok-push.ensures.items; related = refl }) (λ xs ys r s. λ items are. ap (λ ys. xs ++ ys) s ∙ first-links-more c.args.order c.args.field c.args.bytes.now c.loop-i.i c.link_of.result _ xs c.loop-i-test.true read r items are)
+    Appends-more _ (λ (ys : List FieldLink). ys ≡ record { field = c.args.field; link = c.link_of.result } ∷ []) _ _
+    c.loop-i.into.items _ c.loop-i.invariant
+    (record {
+      items = record { field = c.args.field; link = c.link_of.result } ∷ [];
+      whole = c.in_ok-push.ensures.items;
+      related = refl;
+    }) (λ xs ys r s. λ items are. ap (λ ys. xs ++ ys) s
+    ∙ first-links-more c.args.order c.args.field c.args.bytes.now c.loop-i.i c.link_of.result _ xs c.loop-i-test.true
+    read r items are)
 
 pub returns-in_err-push : goal.returns-in_err-push
 returns-in_err-push c =
-    Appends-refused _ (λ (ys : List FieldLink). Unit {0}) _ _ _ c.loop-i.into.items _ c.from_residual.ensures.0 c.loop-i.invariant (record { items = []; whole = c.in_err-push.ensures.items ∙ sym (append-nil c.loop-i.into.items); related = tt })
+    Appends-refused _ (λ (ys : List FieldLink). Unit {0}) _ _ _ c.loop-i.into.items _ c.from_residual.ensures.0
+    c.loop-i.invariant (record {
+      items = [];
+      whole = c.in_err-push.ensures.items ∙ sym (append-nil c.loop-i.into.items);
+      related = tt;
+    })
 
 pub returns : goal.returns
 returns c =
-    Appends-as _ _ _ _ c.loop-i.invariant (λ xs r. first-links-all c.args.order c.args.field c.args.bytes.now c.loop-i.i xs c.loop-i-test.false r)
+    Appends-as _ _ _ _ c.loop-i.invariant
+    (λ xs r. first-links-all c.args.order c.args.field c.args.bytes.now c.loop-i.i xs c.loop-i-test.false r)

@@ -13,16 +13,23 @@ measure_in-requires-then-count-le-FEW_FIELDS c =
 
 pub measure_in-requires-else-count-le-FEW_FIELDS : goal.measure_in-requires-else-count-le-FEW_FIELDS
 measure_in-requires-else-count-le-FEW_FIELDS c =
-    omega (arith, mark_of-few c.args.plan.now (length c.args.plan.now) (omega arith), c.steps-count.ensures.layout.short)
+    omega (
+      arith,
+      mark_of-few c.args.plan.now (length c.args.plan.now) (omega arith),
+      c.steps-count.ensures.layout.short,
+    )
 
 pub returns-then-count-le-FEWEST_FIELDS-clause-ok : goal.returns-then-count-le-FEWEST_FIELDS-clause-ok
 returns-then-count-le-FEWEST_FIELDS-clause-ok c =
-    TellsBody-ok c.args.order c.args.plan.now c.args.body.now c.measure_in.result c.steps-count.ensures.layout.sound c.measure_in.ensures
+    TellsBody-ok c.args.order c.args.plan.now c.args.body.now c.measure_in.result c.steps-count.ensures.layout.sound
+    c.measure_in.ensures
 
 pub returns-then-count-le-FEW_FIELDS-clause-ok : goal.returns-then-count-le-FEW_FIELDS-clause-ok
 returns-then-count-le-FEW_FIELDS-clause-ok c =
-    TellsBody-ok c.args.order c.args.plan.now c.args.body.now c.measure_in-then-count-le-FEW_FIELDS.result c.steps-count.ensures.layout.sound c.measure_in-then-count-le-FEW_FIELDS.ensures
+    TellsBody-ok c.args.order c.args.plan.now c.args.body.now c.measure_in-then-count-le-FEW_FIELDS.result
+    c.steps-count.ensures.layout.sound c.measure_in-then-count-le-FEW_FIELDS.ensures
 
 pub returns-else-count-le-FEW_FIELDS-clause-ok : goal.returns-else-count-le-FEW_FIELDS-clause-ok
 returns-else-count-le-FEW_FIELDS-clause-ok c =
-    TellsBody-ok c.args.order c.args.plan.now c.args.body.now c.measure_in-else-count-le-FEW_FIELDS.result c.steps-count.ensures.layout.sound c.measure_in-else-count-le-FEW_FIELDS.ensures
+    TellsBody-ok c.args.order c.args.plan.now c.args.body.now c.measure_in-else-count-le-FEW_FIELDS.result
+    c.steps-count.ensures.layout.sound c.measure_in-else-count-le-FEW_FIELDS.ensures

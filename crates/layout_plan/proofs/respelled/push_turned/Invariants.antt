@@ -9,4 +9,5 @@ use Rattle.layout_plan.proofs.respelled.push_turned.Given as goal
 -- the numbers so far
 abbrev pub invariant-loop-i : goal.invariant-loop-i
 invariant-loop-i l =
-    Appends (RespellsUpTo (IsNumber Big l.width) (IsNumber Little l.width) l.bytes (drop (l.i * size_of l.width) l.bytes)) l.fn.into.items l.into.items
+    Appends (RespellsUpTo (IsNumber Big l.width) (IsNumber Little l.width) l.bytes
+    (drop (l.i * size_of l.width) l.bytes)) l.fn.into.items l.into.items

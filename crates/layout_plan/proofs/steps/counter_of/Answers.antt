@@ -12,6 +12,10 @@ bounds-marks-i c =
 pub returns : goal.returns
 returns c =
     let f = c.index-fields-i.result in
-    let mark = ap (λ marks. get_or marks c.args.i first_mark) c.requires.marks ∙ marks_from-at first_mark c.args.fields.now c.args.i first_mark (omega (arith, c.requires.field)) in
-    let width = c.single_width.ensures ∙ sym (width_at-field c.args.fields.now c.args.i f (slice_get_read c.args.fields.now (length c.args.fields.now) c.args.i f refl c.requires.field c.index-fields-i.is)) in
+    let mark = ap (λ marks. get_or marks c.args.i first_mark) c.requires.marks
+    ∙ marks_from-at first_mark c.args.fields.now c.args.i first_mark (omega (arith, c.requires.field)) in
+    let width = c.single_width.ensures
+    ∙ sym (width_at-field c.args.fields.now c.args.i f
+    (slice_get_read c.args.fields.now (length c.args.fields.now) c.args.i f refl c.requires.field
+    c.index-fields-i.is)) in
     λ t. record { mark = mark t; width = width t; signed = c.args.signed }

@@ -14,14 +14,18 @@ bounds-marks-i c =
 pub counters_of-requires-clause-earlier : goal.counters_of-requires-clause-earlier
 counters_of-requires-clause-earlier c =
     let f = c.index-fields-i.result in
-    let here = slice_get_read c.args.fields.now (length c.args.fields.now) c.args.i f refl c.requires.field c.index-fields-i.is in
-    sound-within c.args.fields.now c.args.i f c.as_slice-counts.result.now c.requires.sound c.requires.field here c.as_slice-counts.ensures
+    let here = slice_get_read c.args.fields.now (length c.args.fields.now) c.args.i f refl c.requires.field
+    c.index-fields-i.is in
+    sound-within c.args.fields.now c.args.i f c.as_slice-counts.result.now c.requires.sound c.requires.field here
+    c.as_slice-counts.ensures
 
 pub returns : goal.returns
 returns c = λ f is.
-    let here = slice_get_read c.args.fields.now (length c.args.fields.now) c.args.i c.index-fields-i.result refl c.requires.field c.index-fields-i.is in
+    let here = slice_get_read c.args.fields.now (length c.args.fields.now) c.args.i c.index-fields-i.result refl
+    c.requires.field c.index-fields-i.is in
     let same = same_Some c.index-fields-i.result f (sym here ∙ is) in
-    let mark = ap (λ marks. get_or marks c.args.i first_mark) c.requires.marks ∙ marks_from-at first_mark c.args.fields.now c.args.i first_mark (omega (arith, c.requires.field)) in
+    let mark = ap (λ marks. get_or marks c.args.i first_mark) c.requires.marks
+    ∙ marks_from-at first_mark c.args.fields.now c.args.i first_mark (omega (arith, c.requires.field)) in
     let counts = c.as_slice-counts.ensures ∙ ap (λ (f : Field). f.counts) same in
     let items = c.items_of.ensures ∙ ap (λ (f : Field). items_of f.form f.counts) same in
     let factor = c.factor_of.ensures ∙ ap factor_of counts in

@@ -6,8 +6,10 @@ use Rattle.layout_plan.proofs.tests_of_built_in.element_is_read.Goals as goal
 
 pub text_at-requires-clause-text : goal.text_at-requires-clause-text
 text_at-requires-clause-text g c =
-    subst (λ fields. IsTextField fields 0) (sym c.in_ok-plan.ensures) (record { field = single Text; is = refl; form_is = refl; single = refl })
+    subst (λ fields. IsTextField fields 0) (sym c.in_ok-plan.ensures)
+    (record { field = single Text; is = refl; form_is = refl; single = refl })
 
 pub text_at-requires-2-clause-text : goal.text_at-requires-2-clause-text
 text_at-requires-2-clause-text g c =
-    subst (λ fields. IsTextField fields 1) (sym c.in_ok-plan.ensures) (record { field = single Text; is = refl; form_is = refl; single = refl })
+    subst (λ fields. IsTextField fields 1) (sym c.in_ok-plan.ensures)
+    (record { field = single Text; is = refl; form_is = refl; single = refl })

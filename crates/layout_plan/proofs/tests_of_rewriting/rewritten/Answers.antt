@@ -7,4 +7,5 @@ pub rewrite-requires-clause-links : goal.rewrite-requires-clause-links
 rewrite-requires-clause-links c =
     let part = c.in_ok-push_links.ensures.ok in
     let whole = ap length part.whole ∙ length-append c.new-own.result.items part.items in
-    listed-links c.args.order _ c.args.body.now part.items (length c.args.links.now) part.related (omega (arith, whole, ap length c.new-own.ensures.items, c.len.ensures, c.if-len-links.false))
+    listed-links c.args.order _ c.args.body.now part.items (length c.args.links.now) part.related
+    (omega (arith, whole, ap length c.new-own.ensures.items, c.len.ensures, c.if-len-links.false))

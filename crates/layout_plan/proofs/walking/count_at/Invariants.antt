@@ -6,6 +6,7 @@ use Rattle.layout_plan.proofs.walking.count_at.Given as goal
 -- the count so far times those left is the product of all, as far as the cap tells
 abbrev pub invariant-loop-counter : goal.invariant-loop-counter
 invariant-loop-counter l = record {
-  product : min (l.count * product_by (counter_value l.order l.body l.ends) (drop l.counter-index l.counters)) l.cap ≡ min (l.fn.step.factor * product_by (counter_value l.order l.body l.ends) l.counters) l.cap;
+  product : min (l.count * product_by (counter_value l.order l.body l.ends) (drop l.counter-index l.counters)) l.cap
+      ≡ min (l.fn.step.factor * product_by (counter_value l.order l.body l.ends) l.counters) l.cap;
   capped : l.count ≤ l.cap;
 }

@@ -7,11 +7,21 @@ use Rattle.layout_plan.proofs.walking.start_of.Goals as goal
 
 pub place-at-requires-clause-room : goal.place-at-requires-clause-room
 place-at-requires-clause-room c =
-    omega (arith, ap (λ (m : Mark). m.varied) c.requires.mark, IsWalked-room c.requires.walked.0 c.args.plan.now c.args.body.now _ c.args.ends.now c.requires.walked.1 c.requires.walked.2)
+    omega (
+      arith,
+      ap (λ (m : Mark). m.varied) c.requires.mark,
+      IsWalked-room c.requires.walked.0 c.args.plan.now c.args.body.now _ c.args.ends.now c.requires.walked.1
+          c.requires.walked.2,
+    )
 
 pub place-at-requires-clause-below : goal.place-at-requires-clause-below
 place-at-requires-clause-below c =
-    omega (arith, ap (λ (m : Mark). end_of c.args.ends.now m.varied) c.requires.mark, IsWalked-room c.requires.walked.0 c.args.plan.now c.args.body.now _ c.args.ends.now c.requires.walked.1 c.requires.walked.2)
+    omega (
+      arith,
+      ap (λ (m : Mark). end_of c.args.ends.now m.varied) c.requires.mark,
+      IsWalked-room c.requires.walked.0 c.args.plan.now c.args.body.now _ c.args.ends.now c.requires.walked.1
+          c.requires.walked.2,
+    )
 
 pub cut_field-requires-clause-after : goal.cut_field-requires-clause-after
 cut_field-requires-clause-after c =
@@ -20,13 +30,17 @@ cut_field-requires-clause-after c =
 pub returns-then-at-body : goal.returns-then-at-body
 returns-then-at-body c = λ order zero_texts walked.
     let at = c.place-at.ensures ∙ ap (place_of c.args.ends.now) c.requires.mark in
-    let start = IsWalked-start order c.args.plan.now c.args.body.now c.args.k c.args.ends.now zero_texts walked c.requires.field (omega (arith, at, c.if-at-body.true)) in
-    subst (λ (at : ℕ). TellsStart order c.args.plan.now c.args.body.now c.args.k c.args.ends.now zero_texts (Ok at)) (sym at) start
+    let start = IsWalked-start order c.args.plan.now c.args.body.now c.args.k c.args.ends.now zero_texts walked
+    c.requires.field (omega (arith, at, c.if-at-body.true)) in
+    subst (λ (at : ℕ). TellsStart order c.args.plan.now c.args.body.now c.args.k c.args.ends.now zero_texts
+    (Ok at)) (sym at) start
 
 pub fault-requires : goal.fault-requires
 fault-requires c = omega (arith, c.requires.layout.short, c.requires.field, c.cut_field.ensures.before)
 
 pub returns : goal.returns
 returns c = λ order zero_texts walked.
-    IsWalked-cut order c.args.plan.now c.args.body.now c.cut_field.result c.args.k c.args.ends.now zero_texts walked c.requires.field c.cut_field.ensures.before c.cut_field.ensures.same c.cut_field.ensures.begins c.cut_field.ensures.cut
+    IsWalked-cut order c.args.plan.now c.args.body.now c.cut_field.result c.args.k c.args.ends.now zero_texts walked
+    c.requires.field c.cut_field.ensures.before c.cut_field.ensures.same c.cut_field.ensures.begins
+    c.cut_field.ensures.cut
     ∙ ap Err (sym c.fault.ensures)

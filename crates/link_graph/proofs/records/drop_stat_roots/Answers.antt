@@ -6,5 +6,9 @@ use Rattle.link_graph.proofs.records.drop_stat_roots.Goals as goal
 
 pub loop-k-preserved : goal.loop-k-preserved
 loop-k-preserved c =
-    let none : Kept = record { node = record { at = 0; class = 0; instance = 0; root = No }; span = record { at = 0; length = 0; era = 0 } } in
-    mark-more c.args.kept.now c.loop-k.kept c.loop-k.k none c.without_stat_root.result (search rules) c.loop-k.invariant c.without_stat_root.ensures
+    let none : Kept = record {
+      node = record { at = 0; class = 0; instance = 0; root = No };
+      span = record { at = 0; length = 0; era = 0 };
+    } in
+    mark-more c.args.kept.now c.loop-k.kept c.loop-k.k none c.without_stat_root.result (search rules) c.loop-k.invariant
+    c.without_stat_root.ensures

@@ -5,7 +5,13 @@ use Rattle.layout_plan.proofs.plan.Plan.mark.Goals as goal
 
 pub bounds-as_slice-k : goal.bounds-as_slice-k
 bounds-as_slice-k c =
-    omega (arith, ap length c.as_slice.ensures, ap length c.self.invariant.marks_are, length-marks_from first_mark c.self.inside.fields, ap length c.self.view_is)
+    omega (
+      arith,
+      ap length c.as_slice.ensures,
+      ap length c.self.invariant.marks_are,
+      length-marks_from first_mark c.self.inside.fields,
+      ap length c.self.view_is,
+    )
 
 pub returns-clause-mark : goal.returns-clause-mark
 returns-clause-mark c =
