@@ -1,7 +1,8 @@
 -- Records that read by their plans, one after another.
-use Rattle.std.proofs.Common.{◌≡◌, ℕ, ◌+◌, ◌<◌, ◌≤◌, List, [], ◌∷◌, ◌++◌, length, take, get_or, Option, Some, IfSome}
-use Rattle.std.proofs.Common.{sym, ap, subst, arith}
+use Rattle.std.proofs.Common.{◌≡◌, ℕ, ◌+◌, ◌<◌, ◌≤◌, List, [], ◌∷◌, ◌++◌, length, take, get_or, Option, Some, None}
+use Rattle.std.proofs.Common.{IfSome, refl, sym, ap, subst, arith}
 use Rattle.std.specs.Prelude.{All, slice_get}
+use Rattle.std.specs.Option.{option_map}
 use Rattle.std.proofs.lemmas.List.{take_more, take_all}
 use Rattle.std.proofs.lemmas.List.Elements.{All-push}
 use Rattle.std.proofs.lemmas.Option.{slice_get-get_or}
@@ -26,3 +27,8 @@ reads-more plans order nodes k within reads here =
 pub reads-all : (plans : Layouts) (order : Order) (nodes : List Bodied) (k : ℕ) → length nodes ≤ k
     → All (ReadsBy plans order) (take k nodes) → All (ReadsBy plans order) nodes
 reads-all plans order nodes k le reads = subst (All (ReadsBy plans order)) (take_all k nodes le) reads
+
+-- no end record is seen where none is set
+pub no-end : (ended : Option Bodied) → None ≡ option_map (λ (r : Bodied). r.node) ended → ended ≡ None
+no-end None e = refl
+no-end (Some r) e = cc

@@ -100,6 +100,14 @@ fn add(segment: &mut Segment, node: Node, bytes: &[u8]) -> Result<u32, SegmentFa
     segment.add(node)
 }
 
+/// Sets the end record where none is set.
+fn set_end(segment: &mut Segment, node: Node) {
+    match segment.end_node() {
+        Some(_) => {}
+        None => segment.set_end(node),
+    }
+}
+
 /// Whether every body reads by its plan.
 fn all_read(segment: &Segment, plans: &Plans) -> bool
     ensures { IsTrue result → All (ReadsBy plans.now segment.now.order) segment.now.nodes }
@@ -232,7 +240,7 @@ fn the_first_loose_link_in_file_order_is_named(rt: HostRuntime) -> Result<(), Fa
         class: 12,
         instance: 8,
     };
-    segment.set_end(node(PLAIN, 8, Root::No));
+    set_end(&mut segment, node(PLAIN, 8, Root::No));
     // The breadth-first order comes to record 3 before record 2.
     assert!(rt; set_link(&mut segment, &plans, 2, 1, nowhere), "2");
     assert!(rt; set_link(&mut segment, &plans, 3, 1, nowhere), "3");
@@ -273,7 +281,7 @@ fn a_cleared_segment_is_used_again(rt: HostRuntime) -> Result<(), Fail> {
         add(&mut segment, first, &[3]),
         Err(SegmentFault::InstanceTwice)
     );
-    segment.set_end(first);
+    set_end(&mut segment, first);
     assert_eq!(rt; segment.end_body(), [3].as_slice());
     segment.clear();
     assert_eq!(rt; segment.end_body(), [].as_slice());
