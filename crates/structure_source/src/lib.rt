@@ -3,5 +3,7 @@
 #![tactic(auto)]
 
 mod source;
+#[cfg(test)]
+mod tests;
 
 pub use source::{Head, StructureSource};
