@@ -1,5 +1,5 @@
-//! Where fields stand. A field that has no text and no dimension but numerals has a fixed width, where it is not long. Of the others,
-//! the varied fields, a body alone tells how many bytes they are.
+//! Where fields stand. A field that has no text and no dimension but numerals has a fixed width, where it is
+//! not long. Of the others, the varied fields, a body alone tells how many bytes they are.
 ghost use Rattle.std.specs.Prelude.{◌≡◌, ◌+◌, ◌-◌, ◌≤◌, ◌<◌, ◌^◌, ◌∷◌, [], ℕ, min, IfOk, length};
 ghost use Rattle.std.specs.Option.{option_map_or};
 ghost use Rattle.layout_plan.specs.Marks.{numeral_of, factor_of, are_numerals, item_size, short_list, fixed_width, past, first_mark, marks_from};
@@ -70,7 +70,8 @@ fn is_numeral(count: Count) -> bool
     }
 }
 
-/// The bytes of a list by numerals, or None where it is long. So many items, or more where it is the greatest number.
+/// The bytes of a list by numerals, or None where it is long. So many items, or more where it is the greatest
+/// number.
 fn short_list(factor: usize, size: u32) -> Option<u32>
     requires { 0 < size }
     ensures { (n : ℕ) → factor ≡ min n (2 ^ 64 - 1) → result ≡ short_list n size }

@@ -10,11 +10,13 @@ use crate::walking::{FEW_FIELDS, FEWEST_FIELDS, FIELD_LIMIT, fault, walk};
 use crate::{BodyFault, BodyReason, Measured, Plan};
 use scalar_types::Order;
 
-/// What a body has that spells the layout of the plan, else the first field without a spelling. Takes no memory.
+/// What a body has that spells the layout of the plan, else the first field without a spelling. Takes no
+/// memory.
 ///
-/// The body is the bytes after the structure's common part. It may end with four bytes that no field spells. The time is linear
-/// in the number of texts and lists and the bytes of lists of texts, whatever counts stand in the body; where there is a fault, in
-/// the number of fields too.
+/// The body is the bytes after the structure's common part. It may end with four bytes that no field spells.
+/// The time is linear in the number of texts, of lists that are not short lists by numerals alone, of the
+/// names in their dimensions and of links, and in the bytes of lists of texts, whatever counts stand in the
+/// body; where there is a fault, in the number of fields too.
 pub fn measure(plan: &Plan, order: Order, body: &[u8]) -> Result<Measured, BodyFault>
     ensures ok { IsOk result ↔ HasBody order plan.now body.now }
     ensures measured { IfOk result (λ m. IsMeasured order plan.now body.now m.links m.zero_texts) }

@@ -1,4 +1,5 @@
-//! How far a varied field of a body reaches, and what `measure` counts of it. No memory is taken, whatever count a list claims.
+//! How far a varied field of a body reaches, and what `measure` counts of it. No memory is taken, whatever
+//! count a list claims.
 ghost use Rattle.std.specs.Prelude.{◌≡◌, ℕ, ◌≤◌, ◌<◌, ◌+◌, ◌*◌, true, List, min, length};
 ghost use Rattle.layout_plan.specs.declared.fields.Field.{Field};
 ghost use Rattle.layout_plan.specs.declared.fields.Form.TheVariants.{Text};
@@ -21,15 +22,19 @@ pub struct Spelled {
     pub zero_texts: u64,
 }
 
-/// A varied field at the front of the bytes. One with dimensions has so many items; a count above the number of bytes may stand for
-/// each greater one, since each item takes a byte or more.
+/// A varied field at the front of the bytes. One with dimensions has so many items; a count above the number
+/// of bytes may stand for each greater one, since each item takes a byte or more.
 pub fn varied_at(
     order: Order,
     items: Items,
     count: usize,
     bytes: &[u8],
 ) -> Result<Spelled, BodyReason>
-    ensures { (f : Field) (numbers : List ℕ) → is_varied f ≡ true → items ≡ items_of f.form f.counts → count ≡ min (item_count numbers f.counts) (length bytes.now + 1) → Tells (field_in order numbers f.form f.counts bytes.now) f.form bytes.now result }
+    ensures { (f : Field) (numbers : List ℕ)
+        → is_varied f ≡ true
+        → items ≡ items_of f.form f.counts
+        → count ≡ min (item_count numbers f.counts) (length bytes.now + 1)
+        → Tells (field_in order numbers f.form f.counts bytes.now) f.form bytes.now result }
 {
     match items {
         Items::OneText => text_at(order, bytes),
@@ -38,8 +43,8 @@ pub fn varied_at(
     }
 }
 
-/// The items of a field: the product of its counts by the numbers of the fields before it, or the cap where that is less. Takes no
-/// memory.
+/// The items of a field: the product of its counts by the numbers of the fields before it, or the cap where
+/// that is less. Takes no memory.
 pub fn capped_count(counts: &[Count], numbers: &[u64], cap: usize) -> usize
     ensures { result ≡ min (item_count numbers.now counts.now) cap }
 {

@@ -1,4 +1,5 @@
-//! The steps of a walk over the varied fields, made once: what each field's items are, and where the numbers stand that count them.
+//! The steps of a walk over the varied fields, made once: what each field's items are, and where the numbers
+//! stand that count them.
 ghost use Rattle.std.specs.Prelude.{◌≡◌, ◌≤◌, ◌<◌, ◌++◌, length, slice_get, All, Some, IfOk, OnOk};
 ghost use Rattle.layout_plan.specs.Layout.{AreSound, IsEarlier};
 ghost use Rattle.layout_plan.specs.declared.fields.Field.{Field};
@@ -72,7 +73,8 @@ fn step_of(alloc: Global, fields: &[Field], marks: &[Mark], i: usize) -> Result<
     requires sound { AreSound 0 fields.now }
     requires short { length fields.now ≤ 4096 }
     requires field { i < length fields.now }
-    ensures { (f : Field) → slice_get fields.now i ≡ Some f → IfOk result (λ step. step ≡ step_of fields.now i f) }
+    ensures { (f : Field) → slice_get fields.now i ≡ Some f
+        → IfOk result (λ step. step ≡ step_of fields.now i f) }
 {
     let field = &fields[i];
     let counts = field.counts.as_slice();

@@ -7,7 +7,11 @@ use std::test::Fail;
 #[test]
 fn lists_by_numerals_are_whole_or_short(rt: HostRuntime) -> Result<(), Fail> {
     let alloc = rt.alloc();
-    let bytes = [0; 4112].as_slice();
+    let mut zeros = Vec::new(alloc);
+    for _i in 0..4112u32 {
+        zeros.push(0)?;
+    }
+    let bytes = zeros.as_slice();
     for (text, size) in [
         ("CHAR[2]", 2),
         ("CHAR[4096]", 4096),

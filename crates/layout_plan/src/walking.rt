@@ -1,4 +1,5 @@
-//! A walk over the varied fields of a body. The fields of fixed width between them are passed over by the plan's marks.
+//! A walk over the varied fields of a body. The fields of fixed width between them are passed over by the
+//! plan's marks.
 ghost use Rattle.std.specs.Prelude.{◌≡◌, ◌+◌, ◌*◌, ◌≤◌, ◌<◌, ◌^◌, ℕ, List, min, length, Some};
 ghost use Rattle.scalar_types.specs.declared.Order.{Order};
 ghost use Rattle.layout_plan.specs.Layout.{IsLayout};
@@ -60,7 +61,8 @@ pub fn walk(
     }
 }
 
-/// Walks over the field of a step, after the varied fields before it, which have so many texts of a length of 0 alone.
+/// Walks over the field of a step, after the varied fields before it, which have so many texts of a length of
+/// 0 alone.
 fn pass(
     plan: &Plan,
     step: &Step,
@@ -132,14 +134,15 @@ fn number_by(order: Order, width: Option<Width>, bytes: &[u8]) -> u64
 
 /// The number that a field at the front of the bytes is, or 0 where it is none.
 pub fn number_at(order: Order, field: &Field, bytes: &[u8]) -> u64
-    requires { (width : ℕ) → fixed_width field.now.form field.now.counts ≡ Some width → width ≤ length bytes.now }
+    requires { (width : ℕ) → fixed_width field.now.form field.now.counts ≡ Some width
+        → width ≤ length bytes.now }
     ensures { result ≡ number_at order field.now.form field.now.counts bytes.now }
 {
     number_by(order, single_width(field), bytes)
 }
 
-/// Where field k begins, or the fields end, by its mark, after a walk over the varied fields before it. All fields before it must be
-/// whole.
+/// Where field k begins, or the fields end, by its mark, after a walk over the varied fields before it. All
+/// fields before it must be whole.
 fn start_of(
     plan: &Plan,
     k: usize,
@@ -151,7 +154,9 @@ fn start_of(
     requires field { k ≤ length plan.now }
     requires mark { mark ≡ mark_of plan.now k }
     requires walked { HasWalked plan.now body.now (mark_of plan.now k).varied ends.now }
-    ensures { (order : Order) (zero_texts : ℕ) → IsWalked order plan.now body.now (mark_of plan.now k).varied ends.now zero_texts → TellsStart order plan.now body.now k ends.now zero_texts result }
+    ensures { (order : Order) (zero_texts : ℕ)
+        → IsWalked order plan.now body.now (mark_of plan.now k).varied ends.now zero_texts
+        → TellsStart order plan.now body.now k ends.now zero_texts result }
 {
     let at = place(mark, ends);
     if at <= body.len() {
