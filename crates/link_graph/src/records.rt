@@ -1,6 +1,7 @@
 //! The records kept, in order, and found by class and instance.
 
-ghost use Rattle.std.specs.Prelude.{◌≡◌, ◌<◌, ◌≤◌, [], ◌++◌, ◌∷◌, None, Some, length, map, slice_get, OnOk, OnErr};
+ghost use Rattle.std.specs.Prelude.{◌≡◌, ◌<◌, ◌≤◌, [], ◌++◌, ◌∷◌, None, Some, length, map, slice_get, OnOk};
+ghost use Rattle.std.specs.Prelude.{OnErr};
 ghost use Rattle.link_graph.specs.Collected.{link_to, without_stat_root};
 ghost use Rattle.link_graph.specs.Kept.{number_in, without_stat_kept};
 
@@ -14,7 +15,8 @@ use type_text::Link;
 #[derive(Drop)]
 pub struct Records {
     kept: Vec<Kept>,
-    /// The number of each record by its class and instance, in an order of these: so no file makes a search long.
+    /// The number of each record by its class and instance, in an order of these: so no file makes a search
+    /// long.
     numbers: BTreeMap<(u16, u32), u32>,
 }
 

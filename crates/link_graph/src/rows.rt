@@ -1,6 +1,7 @@
 //! The targets of a frame's links and its roots, put together record by record.
 
-ghost use Rattle.std.specs.Prelude.{◌≡◌, ◌<◌, ◌≤◌, ◌++◌, ◌∷◌, [], ℕ, All, None, Some, Err, length, map, position, if◌then◌else◌, ◌==◌, ◌&&◌, not, is_none, IfOk, OnOk};
+ghost use Rattle.std.specs.Prelude.{◌≡◌, ◌<◌, ◌≤◌, ◌++◌, ◌∷◌, [], ℕ, All, None, Some, Err, length, map};
+ghost use Rattle.std.specs.Prelude.{position, if◌then◌else◌, ◌==◌, ◌&&◌, not, is_none, IfOk, OnOk};
 ghost use Rattle.link_graph.specs.Collected.{target_of, same_root};
 ghost use Rattle.link_graph.specs.Graph.{ReadsBy, link_in, is_loose, first_loose, roots_from};
 ghost use Rattle.link_graph.specs.Table.{AreRows};
@@ -12,7 +13,8 @@ use layout_plan::{FieldLink, Plans};
 use std::alloc::{AllocError, Global};
 use type_text::Link;
 
-/// Puts the targets of all links, record by record, and where each record's end; or answers the first loose link.
+/// Puts the targets of all links, record by record, and where each record's end; or answers the first loose
+/// link.
 pub fn put_rows(
     alloc: Global,
     segment: &Segment,
@@ -27,7 +29,8 @@ pub fn put_rows(
         → first_loose plans.now segment.now ≡ Some (node, link) }
     ensures linked { OnOk result (first_loose plans.now segment.now ≡ None) }
     ensures few { length segment.now.nodes ≤ 4294967295 }
-    ensures rows { OnOk result (AreRows plans.now segment.now (length segment.now.nodes) targets.new.items ends.new.items) }
+    ensures rows { OnOk result
+        (AreRows plans.now segment.now (length segment.now.nodes) targets.new.items ends.new.items) }
 {
     let mut links = Vec::new(alloc);
     for k in 0..segment.len() {
@@ -49,9 +52,11 @@ fn put_targets(
     targets: &mut Vec<Option<u32>>,
 ) -> Result<Option<u32>, AllocError>
     requires { length links.now ≤ 4294967295 }
-    ensures loose { IfOk result (λ found. found ≡ position (is_loose segment.now.nodes) (map link_in links.now)) }
+    ensures loose { IfOk result
+        (λ found. found ≡ position (is_loose segment.now.nodes) (map link_in links.now)) }
     ensures put { IfOk result (λ found. found ≡ None
-        → targets.new.items ≡ targets.old.items ++ map (target_of segment.now.nodes) (map link_in links.now)) }
+        → targets.new.items
+        ≡ targets.old.items ++ map (target_of segment.now.nodes) (map link_in links.now)) }
 {
     for k in 0..links.len() {
         let link = links[k].link;

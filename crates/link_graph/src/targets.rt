@@ -1,6 +1,8 @@
 //! Where the links of a frame's records lead.
 
-ghost use Rattle.std.specs.Prelude.{◌≡◌, ◌<◌, ◌≤◌, ◌++◌, ◌∷◌, [], ℕ, All, None, Some, Err, length, map, position, slice_get, slice_index_or, slice_range, drop, if◌then◌else◌, IfOk, OnOk, IfSome};
+ghost use Rattle.std.specs.Prelude.{◌≡◌, ◌<◌, ◌≤◌, ◌++◌, ◌∷◌, [], ℕ, All, None, Some, Err, length, map};
+ghost use Rattle.std.specs.Prelude.{position, slice_get, slice_index_or, slice_range, drop, if◌then◌else◌};
+ghost use Rattle.std.specs.Prelude.{IfOk, OnOk, IfSome};
 ghost use Rattle.rooted_graph.specs.Rooted.{links_of};
 ghost use Rattle.link_graph.specs.Collected.{target_of};
 ghost use Rattle.link_graph.specs.Graph.{ReadsBy, is_loose, first_loose, graph_of, roots_from};
@@ -114,7 +116,8 @@ impl Targets {
 fn row_of<'a>(targets: &'a [Option<u32>], ends: &[usize], node: usize) -> &'a [Option<u32>]
     requires node { node < length ends.now }
     requires ends { AreEnds 0 ends.now (length targets.now) }
-    ensures { result.now ≡ slice_range targets.now (start_of 0 ends.now node) (slice_index_or ends.now node 0) }
+    ensures { result.now
+        ≡ slice_range targets.now (start_of 0 ends.now node) (slice_index_or ends.now node 0) }
 {
     let to = ends[node];
     let from = start(ends, node);

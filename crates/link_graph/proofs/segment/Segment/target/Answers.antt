@@ -6,4 +6,5 @@ use Rattle.link_graph.proofs.segment.Segment.target.Goals as goal
 pub returns : goal.returns
 returns c =
     let s = c.self.inside in
-    target-name s.region s.records c.args.self.now.nodes c.args.to c.number.result (ap (λ (s : Collected). s.nodes) c.self.view_is) c.if-to-eq0.false c.number.ensures
+    target-name s.region s.records c.args.self.now.nodes c.args.to c.number.result
+    (ap (λ (s : Collected). s.nodes) c.self.view_is) c.if-to-eq0.false c.number.ensures
