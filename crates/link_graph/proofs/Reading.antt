@@ -1,6 +1,6 @@
 -- Records that read by their plans, one after another.
-use Rattle.std.proofs.Common.{◌≡◌, ℕ, ◌+◌, ◌<◌, ◌≤◌, List, [], ◌∷◌, ◌++◌, length, take, get_or, Option, Some, None}
-use Rattle.std.proofs.Common.{IfSome, refl, sym, ap, subst, arith}
+use Rattle.std.proofs.Common.{◌≡◌, ℕ, ◌+◌, ◌<◌, ◌≤◌, List, [], length, take, get_or, Option}
+use Rattle.std.proofs.Common.{Some, None, IfSome, refl, sym, subst}
 use Rattle.std.specs.Prelude.{All, slice_get}
 use Rattle.std.specs.Option.{option_map}
 use Rattle.std.proofs.lemmas.List.{take_more, take_all}
@@ -12,8 +12,8 @@ use Rattle.link_graph.specs.Collected.{Bodied}
 use Rattle.link_graph.specs.Graph.{Layouts, ReadsBy}
 
 -- one record more
-pub reads-more : (plans : Layouts) (order : Order) (nodes : List Bodied) (k : ℕ) → k < length nodes
-    → All (ReadsBy plans order) (take k nodes) →
+pub reads-more : (plans : Layouts) (order : Order) (nodes : List Bodied) (k : ℕ) → k < length nodes →
+    All (ReadsBy plans order) (take k nodes) →
     IfSome (slice_get nodes k) (ReadsBy plans order) → All (ReadsBy plans order) (take (k + 1) nodes)
 reads-more plans order nodes k within reads here =
     let none : Bodied = record { node = record { at = 0; class = 0; instance = 0; root = No }; body = [] } in
@@ -24,8 +24,8 @@ reads-more plans order nodes k within reads here =
     (All-push (ReadsBy plans order) (take k nodes) r reads this)
 
 -- all of them
-pub reads-all : (plans : Layouts) (order : Order) (nodes : List Bodied) (k : ℕ) → length nodes ≤ k
-    → All (ReadsBy plans order) (take k nodes) → All (ReadsBy plans order) nodes
+pub reads-all : (plans : Layouts) (order : Order) (nodes : List Bodied) (k : ℕ) → length nodes ≤ k →
+    All (ReadsBy plans order) (take k nodes) → All (ReadsBy plans order) nodes
 reads-all plans order nodes k le reads = subst (All (ReadsBy plans order)) (take_all k nodes le) reads
 
 -- no end record is seen where none is set

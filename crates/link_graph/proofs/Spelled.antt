@@ -1,5 +1,5 @@
 -- The six bytes of a link.
-use Rattle.std.proofs.Common.{◌≡◌, ℕ, ◌<◌, ◌≤◌, ◌^◌, List, [], ◌++◌, length, take, drop, refl, sym, ap, ◌∙◌, arith}
+use Rattle.std.proofs.Common.{◌≡◌, ℕ, ◌<◌, ◌≤◌, ◌^◌, List, [], ◌++◌, length, take, drop, sym, ap, ◌∙◌}
 use Rattle.std.proofs.Common.{append-nil}
 use borrow.Rule.Slice.PartMut.{put_mid}
 use Rattle.std.proofs.lemmas.List.{drop_all, take-append-drop}
@@ -12,21 +12,22 @@ use Rattle.type_text.specs.declared.types.Link.{Link}
 use Rattle.record_values.specs.Spelling.{IsNumber, IsLink}
 
 -- a number is spelled by its bytes
-number-spelled : (order : Order) (width : Width) (n : ℕ) → n < 256 ^ size_of width
-    → IsNumber order width n (bytes_of order width n)
+number-spelled : (order : Order) (width : Width) (n : ℕ) → n < 256 ^ size_of width →
+    IsNumber order width n (bytes_of order width n)
 number-spelled order width n fits =
     record { size = bytes_of-length order width n; value = number-bytes_of order width n fits }
 
--- The bytes of the class, and those of the instance written behind them: the first write leaves four bytes, the second
--- none.
-pub link-spelled : (order : Order) (link : Link) (first second four none : List ℕ) → link.class < 256 ^ 2
-    → link.instance < 256 ^ 4 →
+-- The bytes of the class, and those of the instance written behind them: the first write leaves four bytes,
+-- the second none.
+pub link-spelled : (order : Order) (link : Link) (first second four none : List ℕ) → link.class < 256 ^ 2 →
+    link.instance < 256 ^ 4 →
     take 2 first ≡ bytes_of order Two link.class → drop 2 first ≡ four → length four ≤ 4 →
-    take 4 second ≡ bytes_of order Four link.instance → drop 4 second ≡ none → none ≡ []
-    → IsLink order link (put_mid 2 4 first second)
+    take 4 second ≡ bytes_of order Four link.instance → drop 4 second ≡ none → none ≡ [] →
+    IsLink order link (put_mid 2 4 first second)
 link-spelled order link first second four none class instance front rest long back more empty =
     let last : second ≡ bytes_of order Four link.instance =
-    sym (take-append-drop 4 second) ∙ (λ i. back i ++ more i) ∙ ap (λ xs. bytes_of order Four link.instance ++ xs) empty
+    sym (take-append-drop 4 second) ∙ (λ i. back i ++ more i)
+    ∙ ap (λ xs. bytes_of order Four link.instance ++ xs) empty
     ∙ append-nil (bytes_of order Four link.instance) in
     let behind : drop 4 (drop 2 first) ≡ [] = ap (drop 4) rest ∙ drop_all 4 four long in
     record {

@@ -1,7 +1,7 @@
--- One frame being collected: its records with their bodies, its end record, and the body that is still to be given to
--- one of them.
-use Rattle.std.specs.Prelude.{◌≡◌, ℕ, ◌==◌, ◌&&◌, Bool, true, false, if◌then◌else◌, List, [], ◌∷◌, ◌++◌, map, position}
-use Rattle.std.specs.Prelude.{is_some, Option, Some, None}
+-- One frame being collected: its records with their bodies, its end record, and the body that is still to
+-- be given to one of them.
+use Rattle.std.specs.Prelude.{◌≡◌, ℕ, ◌==◌, ◌&&◌, Bool, true, false, if◌then◌else◌, List, [], ◌∷◌, ◌++◌}
+use Rattle.std.specs.Prelude.{position, is_some, Option, Some, None}
 use Rattle.scalar_types.specs.declared.Order.{Order}
 use Rattle.type_text.specs.declared.types.Link.{Link}
 use Rattle.link_graph.specs.declared.nodes.Root.{Root}
@@ -13,8 +13,9 @@ pub record Bodied : Type 0 where
   pub node : Node
   pub body : List ℕ
 
--- What callers know of a segment: the byte order of the bodies, the records by number, the end record, the pending
--- body, the bytes that `piece` brought since the last `clear`, and how many more it may bring before memory is needed.
+-- What callers know of a segment: the byte order of the bodies, the records by number, the end record, the
+-- pending body, the bytes that `piece` brought since the last `clear`, and how many more it may bring
+-- before memory is needed.
 pub record Collected : Type 0 where
   pub order : Order
   pub nodes : List Bodied

@@ -1,6 +1,6 @@
 -- The links of a frame's records, their targets, and the graph that they make.
-use Rattle.std.specs.Prelude.{◌≡◌, ℕ, ◌+◌, ◌==◌, ◌&&◌, not, Bool, if◌then◌else◌, List, [], ◌∷◌, ◌++◌, map, position}
-use Rattle.std.specs.Prelude.{is_none, Option, Some, None}
+use Rattle.std.specs.Prelude.{◌≡◌, ℕ, ◌+◌, ◌==◌, ◌&&◌, not, Bool, if◌then◌else◌, List, [], ◌∷◌, ◌++◌, map}
+use Rattle.std.specs.Prelude.{position, is_none, Option, Some, None}
 use Rattle.std.specs.Option.{option_map_or}
 use Rattle.std.specs.Result.{result_ok}
 use Rattle.scalar_types.specs.declared.Order.{Order}
@@ -32,11 +32,13 @@ link_in held = held.link
 
 -- the links of a body by a layout: those of its fields in turn, and within a list those of its items
 abbrev pub links_by : Order → List Field → List ℕ → List Link
-links_by order fields body = option_map_or (λ found. links_in found.0) (result_ok (body_in order fields body)) []
+links_by order fields body =
+    option_map_or (λ found. links_in found.0) (result_ok (body_in order fields body)) []
 
 -- the links of a record by the layout of its class
 abbrev pub links_of : Layouts → Order → Bodied → List Link
-links_of plans order r = option_map_or (λ fields. links_by order fields r.body) (plan_of plans r.node.class) []
+links_of plans order r =
+    option_map_or (λ fields. links_by order fields r.body) (plan_of plans r.node.class) []
 
 -- where they lead
 abbrev pub targets_of : Layouts → Order → List Bodied → Bodied → List (Option ℕ)

@@ -1,5 +1,5 @@
--- How a segment is kept: its records in order with an index by class and instance, and their bodies as spans of one
--- region, of which no two have a byte in common.
+-- How a segment is kept: its records in order with an index by class and instance, and their bodies as
+-- spans of one region, of which no two have a byte in common.
 use Rattle.std.specs.Prelude.{◌≡◌, ℕ, ◌+◌, ◌≤◌, List, [], ◌∷◌, map, length, position, All, Option, IfSome}
 use Rattle.std.specs.Option.{option_map}
 use Rattle.std.specs.declared.cmp.Ordering.{Ordering}
@@ -45,12 +45,13 @@ pub record IsBeside (region : Held) (records : List Kept) (last : ℕ) (kept : K
   pub apart : All (λ other. AreApart other.span kept.span) records
 
 -- all bodies are there, apart from one another, and the pending one stands at the end of the region
-pub record AreKept (region : Held) (records : List Kept) (end_kept : Option Kept) (pending : Span) : Type 0 where
-  pub live : All (λ kept. IsLive region kept.span) records
-  pub apart : Follow 0 records pending.at
-  pub end_beside : IfSome end_kept (IsBeside region records pending.at)
-  pub pending_live : IsLive region pending
-  pub last : pending.at + pending.length ≡ length region.bytes
+pub record AreKept (region : Held) (records : List Kept) (end_kept : Option Kept) (pending : Span) : Type 0
+  where
+    pub live : All (λ kept. IsLive region kept.span) records
+    pub apart : Follow 0 records pending.at
+    pub end_beside : IfSome end_kept (IsBeside region records pending.at)
+    pub pending_live : IsLive region pending
+    pub last : pending.at + pending.length ≡ length region.bytes
 
 -- what callers see of what is kept
 abbrev pub collected : Order → Held → List Kept → Option Kept → Span → Collected

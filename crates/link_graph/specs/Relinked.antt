@@ -1,5 +1,5 @@
 -- A link of a record put in the place of another.
-use Rattle.std.specs.Prelude.{◌≡◌, ℕ, ◌+◌, ◌≤◌, List, length, slice_get, slice_set, Option, Some}
+use Rattle.std.specs.Prelude.{◌≡◌, ℕ, ◌+◌, ◌≤◌, List, length, slice_get, slice_set, Some}
 use Rattle.scalar_types.specs.declared.Order.{Order}
 use Rattle.type_text.specs.declared.types.Link.{Link}
 use Rattle.record_values.specs.declared.values.Value.{Value}
@@ -22,10 +22,11 @@ pub record HasLinkBy (plans : Layouts) (order : Order) (k : ℕ) (r : Bodied) : 
 -- The link of this number begins at a place of the body.
 pub record IsLinkOf (plans : Layouts) (order : Order) (k at : ℕ) (r : Bodied) : Type 0 where
   pub within : at + 6 ≤ length r.body
-  pub replaced : (fields : List Field) → plan_of plans r.node.class ≡ Some fields → IsReplaceable order fields r.body k at
+  pub replaced : (fields : List Field) → plan_of plans r.node.class ≡ Some fields →
+      IsReplaceable order fields r.body k at
 
--- The record is the old one, but that six bytes of its body spell this link: by the layout of its class it has the old
--- values, but this link as the one of this number, and the old tail.
+-- The record is the old one, but that six bytes of its body spell this link: by the layout of its class it
+-- has the old values, but this link as the one of this number, and the old tail.
 pub record IsRelinked (plans : Layouts) (order : Order) (k : ℕ) (to : Link) (old new : Bodied) : Type 0 where
   pub node : new.node ≡ old.node
   pub at : ℕ
@@ -33,7 +34,8 @@ pub record IsRelinked (plans : Layouts) (order : Order) (k : ℕ) (to : Link) (o
   pub spelled : IsLink order to six
   pub within : at + 6 ≤ length old.body
   pub body : new.body ≡ overwritten at six old.body
-  pub reads : (fields : List Field) (values : List Value) (tail : List ℕ) → plan_of plans old.node.class ≡ Some fields
+  pub reads : (fields : List Field) (values : List Value) (tail : List ℕ) →
+      plan_of plans old.node.class ≡ Some fields
       → IsBody order fields values tail old.body
       → IsBody order fields (linked values (slice_set (links_in values) k to)) tail new.body
 

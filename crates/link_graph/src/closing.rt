@@ -15,7 +15,8 @@ use thiserror::Error;
 /// Why a frame has no numbering.
 #[derive(Clone, Copy, Debug, PartialEq, Eq, Error)]
 pub enum CloseFault {
-    /// A link that is not null and has no target: the first such of the first record that has one, both from 0.
+    /// A link that is not null and has no target: the first such of the first record that has one, both
+    /// from 0.
     #[error("LooseLink")]
     LooseLink { node: u32, link: u32 },
     /// There was no memory.
@@ -35,13 +36,13 @@ impl From<AllocError> for CloseFault {
 }
 
 impl Segment {
-    /// The breadth-first order of the frame's records, or its first loose link. Every body reads by its plan. In the numbering a
-    /// record has a number exactly where some path from a root ends in it.
+    /// The breadth-first order of the frame's records, or its first loose link. Every body reads by its
+    /// plan. In the numbering a record has a number exactly where some path from a root ends in it.
     ///
     /// # Errors
     ///
-    /// [`CloseFault::LooseLink`] names the first record in file order, and its first link, that is not null and has no target. Where
-    /// there is one it is the answer, want of memory aside.
+    /// [`CloseFault::LooseLink`] names the first record in file order, and its first link, that is not null
+    /// and has no target. Where there is one it is the answer, want of memory aside.
     pub fn close(&self, alloc: Global, plans: &Plans) -> Result<Numbering, CloseFault>
         requires { All (ReadsBy plans.now self.now.order) self.now.nodes }
         ensures loose { (node link : ℕ) → result ≡ Err (CloseFault.LooseLink node link)

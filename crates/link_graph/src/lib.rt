@@ -1,5 +1,5 @@
-//! One frame being collected: its records with their bodies, the targets of their links, and the breadth-first order of the
-//! records that some path from a root ends in.
+//! One frame being collected: its records with their bodies, the targets of their links, and the
+//! breadth-first order of the records that some path from a root ends in.
 #![tactic(auto)]
 
 mod closing;

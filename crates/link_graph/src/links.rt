@@ -22,7 +22,8 @@ impl Segment {
     ) -> Result<(), AllocError>
         requires node { k < length self.now.nodes }
         requires reads { All (ReadsBy plans.now self.now.order) self.now.nodes }
-        ensures links { OnOk result (option_map (links_of plans.now self.now.order) (slice_get self.now.nodes k)
+        ensures links { OnOk result
+            (option_map (links_of plans.now self.now.order) (slice_get self.now.nodes k)
             ≡ Some (map link_in links.new.items)) }
         ensures few { OnOk result (length links.new.items ≤ 4294967295) }
     {

@@ -14,7 +14,8 @@ pub enum Root {
     Stat,
 }
 
-/// A record: its place in bytes from the beginning of the file, its class, its instance, and whether it is a root.
+/// A record: its place in bytes from the beginning of the file, its class, its instance, and whether it is
+/// a root.
 #[derive(Clone, Copy, Debug, PartialEq, Eq)]
 pub struct Node {
     pub at: u64,

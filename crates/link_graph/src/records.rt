@@ -15,7 +15,8 @@ use type_text::Link;
 #[derive(Drop)]
 pub struct Records {
     kept: Vec<Kept>,
-    /// The number of each record by its class and instance, in an order of these: so no file makes a search long.
+    /// The number of each record by its class and instance, in an order of these: so no file makes a search
+    /// long.
     numbers: BTreeMap<(u16, u32), u32>,
 }
 

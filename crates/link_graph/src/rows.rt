@@ -13,7 +13,8 @@ use layout_plan::{FieldLink, Plans};
 use std::alloc::{AllocError, Global};
 use type_text::Link;
 
-/// Puts the targets of all links, record by record, and where each record's end; or answers the first loose link.
+/// Puts the targets of all links, record by record, and where each record's end; or answers the first loose
+/// link.
 pub fn put_rows(
     alloc: Global,
     segment: &Segment,
@@ -54,7 +55,8 @@ fn put_targets(
     ensures loose { IfOk result
         (λ found. found ≡ position (is_loose segment.now.nodes) (map link_in links.now)) }
     ensures put { IfOk result (λ found. found ≡ None
-        → targets.new.items ≡ targets.old.items ++ map (target_of segment.now.nodes) (map link_in links.now)) }
+        → targets.new.items
+        ≡ targets.old.items ++ map (target_of segment.now.nodes) (map link_in links.now)) }
 {
     for k in 0..links.len() {
         let link = links[k].link;

@@ -1,7 +1,7 @@
 //! A frame's records as they are collected.
 
-ghost use Rattle.std.specs.Prelude.{◌≡◌, ◌+◌, ◌-◌, ◌<◌, ◌≤◌, ◌↔◌, [], ◌++◌, None, Some, length, map, slice_get};
-ghost use Rattle.std.specs.Prelude.{IfOk, IfSome, OnOk, OnErr, IsErrOf, IsTrue};
+ghost use Rattle.std.specs.Prelude.{◌≡◌, ◌+◌, ◌-◌, ◌<◌, ◌≤◌, ◌↔◌, [], ◌++◌, None, Some, length, map};
+ghost use Rattle.std.specs.Prelude.{slice_get, IfOk, IfSome, OnOk, OnErr, IsErrOf, IsTrue};
 ghost use Rattle.std.specs.Option.{option_map, option_copied, option_map_or};
 ghost use Rattle.link_graph.specs.Collected.{Collected, Bodied, Becomes, nothing_in, with_node, with_end};
 ghost use Rattle.link_graph.specs.Collected.{without_stat, target_of, is_held};
@@ -31,8 +31,8 @@ pub enum SegmentFault {
 
 /// The records of one frame with their bodies, numbered from 0.
 ///
-/// A body comes in pieces: `room` reserves memory for a piece, `piece` puts it behind the pending body, and `add` or
-/// `set_end` give that body to a record.
+/// A body comes in pieces: `room` reserves memory for a piece, `piece` puts it behind the pending body, and
+/// `add` or `set_end` give that body to a record.
 #[derive(Drop)]
 pub struct Segment {
     order: Order,
@@ -71,8 +71,8 @@ impl Segment {
         }
     }
 
-    /// Makes the spare at least n bytes. What was given and n more are at most 4,294,967,295 bytes. After a refusal nothing has
-    /// changed.
+    /// Makes the spare at least n bytes. What was given and n more are at most 4,294,967,295 bytes. After a
+    /// refusal nothing has changed.
     pub fn room(&mut self, n: u32) -> Result<(), AllocError>
         requires { self.old.given + n ≤ 4294967295 }
         ensures ok { OnOk result (n ≤ self.new.spare) }
@@ -113,8 +113,8 @@ impl Segment {
         self.pending = self.region.put(&[]);
     }
 
-    /// Makes the pending body that of a new record, and answers its number. Fewer than 4,294,967,295 records are held. After a
-    /// refusal nothing has changed.
+    /// Makes the pending body that of a new record, and answers its number. Fewer than 4,294,967,295
+    /// records are held. After a refusal nothing has changed.
     ///
     /// # Errors
     ///
@@ -155,7 +155,8 @@ impl Segment {
         self.records.len()
     }
 
-    /// The number of a link's target. None exactly where the link is null or no record has its class and instance.
+    /// The number of a link's target. None exactly where the link is null or no record has its class and
+    /// instance.
     pub fn target(&self, to: Link) -> Option<u32>
         ensures { result ≡ target_of self.now.nodes to }
     {
@@ -216,8 +217,8 @@ impl Segment {
         self.order
     }
 
-    /// Makes the link of number k of a record, from 0, lead elsewhere. The record reads by its plan and has a link of this number.
-    /// Takes no memory.
+    /// Makes the link of number k of a record, from 0, lead elsewhere. The record reads by its plan and has
+    /// a link of this number. Takes no memory.
     pub fn set_link(&mut self, plans: &Plans, node: u32, k: u32, to: Link)
         requires node { node < length self.old.nodes }
         requires link { IfSome (slice_get self.old.nodes node) (HasLinkBy plans.now self.old.order k) }
@@ -248,8 +249,8 @@ impl Segment {
         self.records.drop_stat_roots();
     }
 
-    /// Leaves no record, no end record, no pending body and no byte given, and keeps the order. Takes no memory, and time by what
-    /// was held.
+    /// Leaves no record, no end record, no pending body and no byte given, and keeps the order. Takes no
+    /// memory, and time by what was held.
     pub fn clear(&mut self)
         ensures { Becomes self.new (nothing_in self.old.order) }
     {

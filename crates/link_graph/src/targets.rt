@@ -116,7 +116,8 @@ impl Targets {
 fn row_of<'a>(targets: &'a [Option<u32>], ends: &[usize], node: usize) -> &'a [Option<u32>]
     requires node { node < length ends.now }
     requires ends { AreEnds 0 ends.now (length targets.now) }
-    ensures { result.now ≡ slice_range targets.now (start_of 0 ends.now node) (slice_index_or ends.now node 0) }
+    ensures { result.now
+        ≡ slice_range targets.now (start_of 0 ends.now node) (slice_index_or ends.now node 0) }
 {
     let to = ends[node];
     let from = start(ends, node);

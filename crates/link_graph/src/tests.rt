@@ -1,4 +1,5 @@
-//! What no clause says: that the calls succeed where memory is there, frames numbered by hand, and the time of large ones.
+//! What no clause says: that the calls succeed where memory is there, frames numbered by hand, and the time
+//! of large ones.
 
 ghost use Rattle.std.specs.Prelude.{◌≡◌, ◌<◌, IsTrue, IfSome, All, length, slice_get};
 ghost use Rattle.link_graph.specs.Graph.{ReadsBy};
@@ -158,7 +159,8 @@ fn has_link(segment: &Segment, plans: &Plans, node: u32, k: u32) -> bool
     }
 }
 
-/// What `close` answers of a segment: the breadth-first order, or the loose link. None where a body does not read.
+/// What `close` answers of a segment: the breadth-first order, or the loose link. None where a body does
+/// not read.
 fn closed(
     alloc: Global,
     segment: &Segment,
@@ -173,7 +175,8 @@ fn closed(
 /// Class, instance and root of a record, and the bytes of its body.
 type Made = (u8, u32, Root, &'static [u8]);
 
-/// Eight records: two that no path ends in, a cycle, a null link, a list of links, and a record that is shared.
+/// Eight records: two that no path ends in, a cycle, a null link, a list of links, and a record that is
+/// shared.
 const FRAME: [Made; 8] = [
     (PLAIN, 5, Root::No, &[7]),
     (PAIR, 0, Root::Head, &[11, 0, 0, 0, 0, 0, 10, 0, 1, 0, 0, 0]),
@@ -293,7 +296,8 @@ fn a_cleared_segment_is_used_again(rt: HostRuntime) -> Result<(), Fail> {
 /// How many records the large frames have.
 const MANY: u32 = 1_000_000;
 
-/// A chain of records, each with a link to the one whose instance follows, that come in the order of these steps.
+/// A chain of records, each with a link to the one whose instance follows, that come in the order of these
+/// steps.
 fn chain(alloc: Global, step: u32) -> Result<Segment, SegmentFault> {
     let mut segment = Segment::new(alloc, Order::Little);
     let mut instance = 0;

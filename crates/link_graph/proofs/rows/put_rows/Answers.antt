@@ -1,6 +1,6 @@
 -- One record more, or its first loose link.
-use Rattle.std.proofs.Common.{◌≡◌, ℕ, ◌+◌, ◌<◌, ◌++◌, ◌∷◌, [], List, length, drop, map, position, Some, None, ap, sym}
-use Rattle.std.proofs.Common.{◌∙◌, arith, rules}
+use Rattle.std.proofs.Common.{◌≡◌, ℕ, ◌+◌, ◌<◌, ◌++◌, ◌∷◌, [], List, length, drop, map, position, Some}
+use Rattle.std.proofs.Common.{None, ap, sym, ◌∙◌, arith, rules}
 use Rattle.std.specs.Prelude.{is_ok}
 use Rattle.std.specs.Option.{option_map_or}
 use Rattle.std.proofs.lemmas.Bool.{cond-true}
@@ -17,15 +17,16 @@ returns-in-Some-clause-loose c = λ node link same.
     let items : List FieldLink = c.read_links.new.links.items in
     let within : c.loop-k.k < length s.nodes = omega (arith, c.loop-k-test.true, c.len-k-end.ensures) in
     let found : position (is_loose s.nodes) (map link_in items) ≡ Some c.in-Some.link =
-    ap (λ (links : List FieldLink). position (is_loose s.nodes) (map link_in links)) (sym c.as_slice.ensures.value)
-    ∙ sym c.in_ok-link.ensures.loose ∙ c.in-Some.is in
+    ap (λ (links : List FieldLink). position (is_loose s.nodes) (map link_in links))
+    (sym c.as_slice.ensures.value) ∙ sym c.in_ok-link.ensures.loose ∙ c.in-Some.is in
     let node_is : c.loop-k.k ≡ node = cc in
     let link_is : c.in-Some.link ≡ link = cc in
     sym c.loop-k.invariant.loose
     ∙ loose-step c.args.plans.now s.order s.nodes c.loop-k.k (map link_in items) within
     c.in_ok-read_links.ensures.links
     ∙ ap (λ found. option_map_or (λ j. Some (c.loop-k.k, j)) found
-    (loose_from c.args.plans.now s.order s.nodes (c.loop-k.k + 1) (drop (c.loop-k.k + 1) s.nodes))) found
+    (loose_from c.args.plans.now s.order s.nodes (c.loop-k.k + 1) (drop (c.loop-k.k + 1) s.nodes)))
+    found
     ∙ (λ i. Some (node_is i, link_is i))
 
 pub loop-k-preserved : goal.loop-k-preserved
@@ -34,12 +35,13 @@ loop-k-preserved c =
     let items : List FieldLink = c.read_links.new.links.items in
     let within : c.loop-k.k < length s.nodes = omega (arith, c.loop-k-test.true, c.len-k-end.ensures) in
     let found : position (is_loose s.nodes) (map link_in items) ≡ None =
-    ap (λ (links : List FieldLink). position (is_loose s.nodes) (map link_in links)) (sym c.as_slice.ensures.value)
-    ∙ sym c.in_ok-link.ensures.loose ∙ c.in_default.is in
-    let put : c.put_targets.new.targets.items ≡ c.loop-k.targets.items ++ map (target_of s.nodes) (map link_in items) =
+    ap (λ (links : List FieldLink). position (is_loose s.nodes) (map link_in links))
+    (sym c.as_slice.ensures.value) ∙ sym c.in_ok-link.ensures.loose ∙ c.in_default.is in
+    let put : c.put_targets.new.targets.items ≡ c.loop-k.targets.items ++ map (target_of s.nodes)
+    (map link_in items) =
     c.in_ok-link.ensures.put c.in_default.is
-    ∙ ap (λ (links : List FieldLink). c.loop-k.targets.items ++ map (target_of s.nodes) (map link_in links))
-    c.as_slice.ensures.value in
+    ∙ ap (λ (links : List FieldLink). c.loop-k.targets.items ++ map (target_of s.nodes)
+    (map link_in links)) c.as_slice.ensures.value in
     let size : c.len.result ≡ length c.put_targets.new.targets.items = search rules in
     let pushed : c.push.new.self.items ≡ c.loop-k.ends.items ++ length c.put_targets.new.targets.items ∷ [] =
     c.push.ensures.items ∙ cond-true (is_ok c.push.result) (c.loop-k.ends.items ++ c.len.result ∷ [])
@@ -50,7 +52,8 @@ loop-k-preserved c =
           c.loop-k.ends.items c.push.new.self.items (map link_in items) c.loop-k.invariant.rows within
           c.in_ok-read_links.ensures.links put pushed;
       loose = ap (λ found. option_map_or (λ j. Some (c.loop-k.k, j)) found
-          (loose_from c.args.plans.now s.order s.nodes (c.loop-k.k + 1) (drop (c.loop-k.k + 1) s.nodes))) (sym found)
+          (loose_from c.args.plans.now s.order s.nodes (c.loop-k.k + 1) (drop (c.loop-k.k + 1) s.nodes)))
+          (sym found)
           ∙ sym (loose-step c.args.plans.now s.order s.nodes c.loop-k.k (map link_in items) within
           c.in_ok-read_links.ensures.links)
           ∙ c.loop-k.invariant.loose;

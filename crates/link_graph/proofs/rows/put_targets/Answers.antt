@@ -1,5 +1,4 @@
-use Rattle.std.proofs.Common.{arith, rules}
-use Rattle.link_graph.proofs.FirstLoose.{none-put, one-put, loose-here, all-put}
+use Rattle.link_graph.proofs.FirstLoose.{none-put}
 use Rattle.link_graph.proofs.rows.put_targets.Goals as goal
 
 pub loop-k-init : goal.loop-k-init

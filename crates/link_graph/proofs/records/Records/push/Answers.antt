@@ -12,10 +12,11 @@ pub invariant_of-self-else-is_err-2 : goal.invariant_of-self-else-is_err-2
 invariant_of-self-else-is_err-2 c =
     let pushed : c.push.new.self.items ≡ c.self.inside.kept.items ++ c.args.kept ∷ [] = search rules in
     let same : c.link_to-to.result ≡ link_to c.args.kept.node = search rules in
-    let updates = on-ok c.insert.result (sym c.is_err-2.ensures.value ∙ c.if-is_err-2.false) c.insert.ensures.updates in
+    let updates = on-ok c.insert.result (sym c.is_err-2.ensures.value
+    ∙ c.if-is_err-2.false) c.insert.ensures.updates in
     subst (λ (records : List Kept). AreNumbered records c.insert.new.self) (sym pushed)
-    (numbered-push c.self.inside.kept.items c.args.kept c.self.inside.numbers c.insert.new.self c.len-number.result
-    c.self.invariant
+    (numbered-push c.self.inside.kept.items c.args.kept c.self.inside.numbers c.insert.new.self
+    c.len-number.result c.self.invariant
     (search rules) (search rules) (search rules)
     (subst (λ (to : Link). Updates by_name c.self.inside.numbers c.insert.new.self (to.class, to.instance)
     (Some c.len-number.result)) same updates))

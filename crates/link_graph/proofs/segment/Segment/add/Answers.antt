@@ -12,7 +12,8 @@ returns-then-is_some-clause-twice c =
     let s = c.self.inside in
     let held : is_held c.args.self.now.nodes c.args.node ≡ true =
     held-name s.region s.records c.args.self.now.nodes c.args.node c.number.result
-    (ap (λ (s : Collected). s.nodes) c.self.view_is) (c.number.ensures ∙ ap (number_in s.records) c.link_to.ensures)
+    (ap (λ (s : Collected). s.nodes) c.self.view_is) (c.number.ensures
+    ∙ ap (number_in s.records) c.link_to.ensures)
     ∙ sym c.is_some.ensures ∙ c.if-is_some.true in
     (λ _. held, λ _. search rules)
 
@@ -21,7 +22,8 @@ returns-then-is_err-clause-twice c =
     let s = c.self.inside in
     let held : is_held c.args.self.now.nodes c.args.node ≡ false =
     held-name s.region s.records c.args.self.now.nodes c.args.node c.number.result
-    (ap (λ (s : Collected). s.nodes) c.self.view_is) (c.number.ensures ∙ ap (number_in s.records) c.link_to.ensures)
+    (ap (λ (s : Collected). s.nodes) c.self.view_is) (c.number.ensures
+    ∙ ap (number_in s.records) c.link_to.ensures)
     ∙ sym c.is_some.ensures ∙ c.if-is_some.false in
     (λ e. cc, λ t. absurd (not-none _ held t))
 
@@ -30,19 +32,20 @@ returns-clause-twice c =
     let s = c.self.inside in
     let held : is_held c.args.self.now.nodes c.args.node ≡ false =
     held-name s.region s.records c.args.self.now.nodes c.args.node c.number.result
-    (ap (λ (s : Collected). s.nodes) c.self.view_is) (c.number.ensures ∙ ap (number_in s.records) c.link_to.ensures)
+    (ap (λ (s : Collected). s.nodes) c.self.view_is) (c.number.ensures
+    ∙ ap (number_in s.records) c.link_to.ensures)
     ∙ sym c.is_some.ensures ∙ c.if-is_some.false in
     (λ e. cc, λ t. absurd (not-none _ held t))
 
 pub invariant_of-self-2 : goal.invariant_of-self-2
 invariant_of-self-2 c =
     let s = c.self.inside in
-    let put = nothing-put s.region c.put-self-inside.new.self c.put-self-inside.result c.put-self-inside.ensures.after
-    c.put-self-inside.ensures.span in
+    let put = nothing-put s.region c.put-self-inside.new.self c.put-self-inside.result
+    c.put-self-inside.ensures.after c.put-self-inside.ensures.span in
     let pushed : c.push.new.self ≡ s.records ++ record { node = c.args.node; span = s.pending } ∷ [] =
     on-ok c.push.result (sym c.is_err.ensures.value ∙ c.if-is_err.false) c.push.ensures.ok in
     subst (λ (records : List Kept). AreKept c.put-self-inside.new.self records s.end
     c.put-self-inside.result) (sym pushed)
-    (kept-added s.region c.put-self-inside.new.self s.records s.end s.pending c.put-self-inside.result c.args.node
-    c.put-self-inside.ensures.keeps c.self.invariant
+    (kept-added s.region c.put-self-inside.new.self s.records s.end s.pending c.put-self-inside.result
+    c.args.node c.put-self-inside.ensures.keeps c.self.invariant
     (omega (arith, put.0, c.self.invariant.last)) c.put-self-inside.ensures.gives.live put.1)

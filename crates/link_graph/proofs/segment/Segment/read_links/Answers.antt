@@ -15,6 +15,7 @@ returns-clause-links c =
     let plan : plan_of c.args.plans.now node.class ≡ Some c.in-Some.plan.now = sym c.plan.ensures
     ∙ ap option_copied c.in-Some.is in
     ok-map c.read_links.result
-    (λ read. links-at c.args.plans.now s.order s.nodes c.args.k node body c.in-Some.plan.now _ c.node-node.ensures
-    c.body-body.ensures.body plan (read ∙ ap (λ order. links_by order c.in-Some.plan.now body) c.order.ensures))
+    (λ read. links-at c.args.plans.now s.order s.nodes c.args.k node body c.in-Some.plan.now _
+    c.node-node.ensures c.body-body.ensures.body plan (read
+    ∙ ap (λ order. links_by order c.in-Some.plan.now body) c.order.ensures))
     c.read_links.ensures.links
