@@ -1,6 +1,7 @@
 //! The laws of layouts and bodies. Each is the contract of a function that does nothing: a crate that calls the function has the
 //! law.
-ghost use Rattle.layout_plan.specs.BodyLaws.{LayoutsAreSound, FaultOrBody, BodiesAreUnique, LengthsAreTold, FaultsAreTold};
+ghost use Rattle.layout_plan.specs.BodyLaws.{LayoutsAreSound, FaultOrBody, BodiesAreUnique, LengthsAreTold};
+ghost use Rattle.layout_plan.specs.BodyLaws.{FaultsAreTold};
 
 /// In a readable layout each dimension names an earlier field, or none.
 pub fn layouts_are_sound()

@@ -105,8 +105,10 @@ pub fn walk_body(plan: &Plan, k: usize, order: Order, body: &[u8], ends: &mut [u
 /// The place of field k, by the ends of the varied fields up to it.
 pub fn place_by(plan: &Plan, k: usize, ends: &[usize]) -> Placed
     requires field { k < length plan.now }
-    requires places { (order : Order) × (body : List ℕ) × ArePlaces order plan.now body (k + 1) ends.now × (length body < 2 ^ 63) }
-    ensures { (order : Order) (body : List ℕ) → ArePlaces order plan.now body (k + 1) ends.now → IsPlaced order plan.now body k result }
+    requires places { (order : Order) × (body : List ℕ) × ArePlaces order plan.now body (k + 1) ends.now
+        × (length body < 2 ^ 63) }
+    ensures { (order : Order) (body : List ℕ) → ArePlaces order plan.now body (k + 1) ends.now
+        → IsPlaced order plan.now body k result }
 {
     let start = place(plan.mark(k), ends);
     Placed {

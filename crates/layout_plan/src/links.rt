@@ -9,7 +9,8 @@ ghost use Rattle.layout_plan.specs.Body.{HasBody};
 ghost use Rattle.layout_plan.specs.Reading.{link_in};
 ghost use Rattle.layout_plan.specs.Marks.{mark_of};
 ghost use Rattle.layout_plan.specs.Walking.{ArePlaces};
-ghost use Rattle.layout_plan.specs.Links.{HasLink, HasLinkAt, HasLinkIn, IsLinkPlaced, IsReplaceable, AreLinks, links_with, HasLinks, is_link};
+ghost use Rattle.layout_plan.specs.Links.{HasLink, HasLinkAt, HasLinkIn, IsLinkPlaced, IsReplaceable, AreLinks};
+ghost use Rattle.layout_plan.specs.Links.{links_with, HasLinks, is_link};
 
 use crate::lent::{place_by, walk_body};
 use crate::walking::{FEW_FIELDS, FEWEST_FIELDS, FIELD_LIMIT};
@@ -90,7 +91,8 @@ fn push_all(
     into: &mut Vec<FieldLink>,
 ) -> Result<(), AllocError>
     requires { HasBody order plan.now body.now }
-    ensures { Appends (λ links. OnOk result (AreLinks order plan.now body.now links)) into.old.items into.new.items }
+    ensures { Appends (λ links. OnOk result (AreLinks order plan.now body.now links)) into.old.items
+        into.new.items }
 {
     let count = plan.steps().len();
     if count <= FEWEST_FIELDS {
@@ -112,7 +114,8 @@ fn push_all_in(
 ) -> Result<(), AllocError>
     requires body { HasBody order plan.now body.now }
     requires room { (mark_of plan.now (length plan.now)).varied ≤ length ends.old }
-    ensures { Appends (λ links. OnOk result (AreLinks order plan.now body.now links)) into.old.items into.new.items }
+    ensures { Appends (λ links. OnOk result (AreLinks order plan.now body.now links)) into.old.items
+        into.new.items }
 {
     walk_body(plan, plan.fields().len(), order, body, ends);
     for field in plan.links() {

@@ -2,7 +2,8 @@
 //! not long. Of the others, the varied fields, a body alone tells how many bytes they are.
 ghost use Rattle.std.specs.Prelude.{◌≡◌, ◌+◌, ◌-◌, ◌≤◌, ◌<◌, ◌^◌, ◌∷◌, [], ℕ, min, IfOk, length};
 ghost use Rattle.std.specs.Option.{option_map_or};
-ghost use Rattle.layout_plan.specs.Marks.{numeral_of, factor_of, are_numerals, item_size, short_list, fixed_width, past, first_mark, marks_from};
+ghost use Rattle.layout_plan.specs.Marks.{numeral_of, factor_of, are_numerals, item_size, short_list};
+ghost use Rattle.layout_plan.specs.Marks.{fixed_width, past, first_mark, marks_from};
 
 use crate::links::LINK_SIZE;
 use crate::spelled::capped_product;

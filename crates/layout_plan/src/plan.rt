@@ -1,6 +1,7 @@
 //! The plan of an entry: its layout, compiled once.
 ghost use Rattle.std.specs.Prelude.{◌≡◌, ◌≤◌, ◌++◌, List, [], ◌∷◌, length, if◌then◌else◌, IfOk, OnOk};
-ghost use Rattle.layout_plan.specs.Layout.{layout_of, form_of, counted_by, named_count, is_check_sum, count_of, counts_of, field_of, IsLayout};
+ghost use Rattle.layout_plan.specs.Layout.{layout_of, form_of, counted_by, named_count, is_check_sum, count_of};
+ghost use Rattle.layout_plan.specs.Layout.{counts_of, field_of, IsLayout};
 ghost use Rattle.layout_plan.specs.Links.{is_link};
 ghost use Rattle.layout_plan.specs.Marks.{numbers_where, mark_of};
 ghost use Rattle.layout_plan.specs.Steps.{steps_of};

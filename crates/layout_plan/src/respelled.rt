@@ -4,7 +4,8 @@ ghost use Rattle.std.specs.Prelude.{◌≡◌, ◌≤◌, ◌<◌, ◌*◌, ℕ,
 ghost use Rattle.scalar_types.specs.declared.Order.{Order};
 ghost use Rattle.record_values.specs.Spelling.{IsNumber, IsText, IsClosedText, AreItems};
 ghost use Rattle.layout_plan.specs.Appends.{Appends};
-ghost use Rattle.layout_plan.specs.Respelled.{IsSumNumber, Respells, BeginsText, RespellsText, SpellsFew, RespellsForm, RespellsField};
+ghost use Rattle.layout_plan.specs.Respelled.{IsSumNumber, Respells, BeginsText, RespellsText, SpellsFew};
+ghost use Rattle.layout_plan.specs.Respelled.{RespellsForm, RespellsField};
 
 use crate::links::LINK_SIZE;
 use crate::spelling::{push_links, push_number};

@@ -27,7 +27,8 @@ pub fn rewrite(
 ) -> Result<(), AllocError>
     requires read { HasBody order plan.now body.now }
     requires links { HasLinks order plan.now body.now (length links.now) }
-    ensures ok { OnOk result (Appends (IsRewritten order plan.now body.now links.now) into.old.items into.new.items) }
+    ensures ok { OnOk result
+        (Appends (IsRewritten order plan.now body.now links.now) into.old.items into.new.items) }
     ensures err { OnErr result (into.new.items ≡ into.old.items) }
 {
     let start = into.len();
@@ -48,7 +49,8 @@ fn push_body(
 ) -> Result<(), AllocError>
     requires read { HasBody order plan.now body.now }
     requires links { HasLinks order plan.now body.now (length links.now) }
-    ensures { Appends (λ bytes. OnOk result (IsRewritten order plan.now body.now links.now bytes)) into.old.items into.new.items }
+    ensures { Appends (λ bytes. OnOk result (IsRewritten order plan.now body.now links.now bytes))
+        into.old.items into.new.items }
 {
     into.reserve(body.len())?;
     let count = plan.steps().len();
@@ -73,7 +75,8 @@ fn push_fields(
     requires read { HasBody order plan.now body.now }
     requires links { HasLinks order plan.now body.now (length links.now) }
     requires room { (mark_of plan.now (length plan.now)).varied ≤ length ends.old }
-    ensures { Appends (λ bytes. OnOk result (IsRewritten order plan.now body.now links.now bytes)) into.old.items into.new.items }
+    ensures { Appends (λ bytes. OnOk result (IsRewritten order plan.now body.now links.now bytes))
+        into.old.items into.new.items }
 {
     let fields = plan.fields();
     walk_body(plan, fields.len(), order, body, ends);

@@ -4,7 +4,8 @@ ghost use Rattle.std.specs.Prelude.{◌≡◌, ◌≤◌, ◌<◌, ◌++◌, len
 ghost use Rattle.layout_plan.specs.Layout.{AreSound, IsEarlier};
 ghost use Rattle.layout_plan.specs.declared.fields.Field.{Field};
 ghost use Rattle.layout_plan.specs.Marks.{first_mark, marks_from};
-ghost use Rattle.layout_plan.specs.Steps.{single_width, items_of, counter_of, counters_by, counters_of, step_of, steps_of};
+ghost use Rattle.layout_plan.specs.Steps.{single_width, items_of, counter_of, counters_by, counters_of};
+ghost use Rattle.layout_plan.specs.Steps.{step_of, steps_of};
 
 use crate::links::LINK_SIZE;
 use crate::marks::{Mark, factor_of, fixed_width};

@@ -4,7 +4,8 @@ ghost use Rattle.std.specs.Prelude.{◌≡◌, ◌+◌, ◌*◌, ◌≤◌, ◌<
 ghost use Rattle.scalar_types.specs.declared.Order.{Order};
 ghost use Rattle.layout_plan.specs.Layout.{IsLayout};
 ghost use Rattle.layout_plan.specs.Marks.{mark_of, end_of, place_of, fixed_width};
-ghost use Rattle.layout_plan.specs.Steps.{number_by, counter_value, step_count, IsStep, HasRoom, IsThere, AreThere};
+ghost use Rattle.layout_plan.specs.Steps.{number_by, counter_value, step_count, IsStep, HasRoom, IsThere};
+ghost use Rattle.layout_plan.specs.Steps.{AreThere};
 ghost use Rattle.layout_plan.specs.Walking.{number_at, IsWalked, HasWalked, TellsReached, TellsStart};
 
 use crate::marks::Mark;
@@ -73,7 +74,8 @@ fn pass(
 ) -> Result<Walked, BodyFault>
     requires layout { IsLayout plan.now }
     requires step { IsStep plan.now step.now }
-    requires walked { IsWalked order plan.now body.now (mark_of plan.now step.now.field).varied ends.now zero_texts }
+    requires walked { IsWalked order plan.now body.now (mark_of plan.now step.now.field).varied
+        ends.now zero_texts }
     ensures { TellsReached order plan.now body.now (step.now.field + 1) step.now.field ends.now result }
 {
     let k = step.field as usize;
