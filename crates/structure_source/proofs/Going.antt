@@ -5,19 +5,19 @@ use Rattle.std.proofs.Common.{Some, None, option_map}
 use Rattle.std.specs.Prelude.{option_and_then}
 use Rattle.std.proofs.Common.{refl, sym, ap, ◌∙◌, subst, add-zero, arith, append-nil, length-append}
 use Rattle.std.proofs.Common.{length-drop, length-take}
-use Rattle.std.specs.Prelude.{max, true, false, Result, Ok, Err, is_ok, is_err}
+use Rattle.std.specs.Prelude.{true, false, Result, Ok, Err, is_ok, is_err}
 use Rattle.std.proofs.lemmas.List.{drop-drop, take-append-le, append_assoc, take_at}
 use Rattle.std.proofs.Math.Seq.{take-add}
 use borrow.Rule.Slice.PartMut.{put_mid, post_of}
 use Rattle.frame_outside.specs.Shelf.{Outside, Reading, Source, Told, IsSource, Passes, left_of, passed}
-use Rattle.frame_outside.specs.Shelf.{pass, reading_at}
+use Rattle.frame_outside.specs.Shelf.{reading_at}
 use Rattle.frame_outside.specs.Shelf.{Opens, beginning, beginning_of}
-use Rattle.frame_outside.specs.SlotReader.{Buffered, to_come, Draws, Advances, most_ahead}
+use Rattle.frame_outside.specs.SlotReader.{Buffered, Advances}
 use Rattle.frame_outside.proofs.Slots.{reading_at-pass, reading_at-given, IsSource-opens}
 use Rattle.frame_outside.proofs.Reading.{passes_none, passes_more, gone_once, advances_given}
 use Rattle.link_graph.specs.Collected.{Collected, Becomes}
-use Rattle.structure_source.specs.Source.{Position, drawn, left_at, IsAt, Stands, GoesOn, IsBounded}
-use Rattle.structure_source.specs.Source.{PassesNext, ArePassed}
+use Rattle.structure_source.specs.Source.{Position, drawn, IsAt, Stands, GoesOn, IsBounded}
+use Rattle.structure_source.specs.Source.{PassesNext}
 use Rattle.structure_source.specs.Source.{Appends, Brings}
 
 -- a source as the buffered reader that it has
@@ -159,7 +159,8 @@ at-now old new before after reading goes stands told =
     (next, seen, refl, stands.place next seen)
 
 -- no place is beyond the end of the file
-pub within-file : (first last : Outside) (start now : Position) (reading : Reading) → GoesOn first last start now
+pub within-file : (first last : Outside) (start now : Position) (reading : Reading)
+    → GoesOn first last start now
     → Stands last now → reading_at first.slots start.slot ≡ Some reading → now.at ≤ length reading.opened
 within-file first last start now reading goes stands told =
     let here = at-now first last start now reading goes stands told in
@@ -431,7 +432,8 @@ stands_begun outside slot source begins = record {
 -- and so does one of a slot that was opened just now
 pub stands_opened : (old new : Outside) (name : List ℕ) (slot : ℕ) → Opens old new name slot
     → Stands new (record { slot = slot; ahead = []; at = 0 })
-stands_opened old new name slot opens = stands_begun new slot (IsSource-opens old new name slot opens) (λ reading told.
+stands_opened old new name slot opens =
+    stands_begun new slot (IsSource-opens old new name slot opens) (λ reading told.
     let opened : reading_at new.slots slot ≡ beginning_of old.files name =
     ap (λ slots. reading_at slots slot) opens.slots
     ∙ ap (reading_at (old.slots ++ Source (beginning_of old.files name) ∷ [])) opens.number

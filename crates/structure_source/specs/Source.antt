@@ -2,7 +2,6 @@
 use Rattle.std.specs.Prelude.{◌≡◌, ◌↔◌, ℕ, ◌+◌, ◌-◌, ◌<◌, ◌≤◌, List, ◌++◌, length, take, drop, max, Option}
 use Rattle.std.specs.Prelude.{Bool, false, IsTrue}
 use Rattle.scalar_types.specs.declared.Order.{Order}
-use Rattle.frame_head.specs.declared.structure.Common.{Common}
 use Rattle.frame_head.specs.Structure.{common_of}
 use Rattle.frame_outside.specs.Shelf.{Outside, Reading, Told, IsSource, reading_at, left_of}
 use Rattle.frame_outside.specs.SlotReader.{Draws, most_ahead}

@@ -1,6 +1,6 @@
 -- Each step by the lemma of its name on n bytes that are passed in pieces, and on a pending body that grows
 -- by them.
-use Rattle.std.proofs.Common.{◌≡◌, ℕ, ◌+◌, ◌-◌, ◌<◌, ◌≤◌, List, ◌++◌, length, take, ap, sym, ◌∙◌, refl, arith}
+use Rattle.std.proofs.Common.{◌≡◌, ℕ, ◌+◌, ◌-◌, ◌≤◌, List, ◌++◌, length, take, ap, ◌∙◌, refl, arith}
 use Rattle.std.proofs.lemmas.Grind.{common_steps}
 use Rattle.structure_source.specs.Source.{Position}
 use Rattle.structure_source.proofs.Going.{goes-more, underway-none, underway-ready, underway-passed}

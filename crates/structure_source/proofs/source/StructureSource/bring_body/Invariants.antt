@@ -1,5 +1,4 @@
 -- So many bytes are left to be passed, and what was passed stands at the end of the pending body.
-use Rattle.std.proofs.Common.{◌≡◌, ◌+◌}
 use Rattle.frame_outside.specs.Shelf.{reading_at}
 use Rattle.structure_source.specs.Source.{Brings}
 use Rattle.structure_source.proofs.Going.{Underway}

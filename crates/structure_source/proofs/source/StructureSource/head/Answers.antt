@@ -1,5 +1,5 @@
 -- Fewer than 14 bytes, or all of them.
-use Rattle.std.proofs.Common.{◌≡◌, ℕ, ◌<◌, ◌≤◌, List, length, take, drop, ap, sym, ◌∙◌, arith, rules}
+use Rattle.std.proofs.Common.{◌≡◌, ℕ, List, length, take, drop, ap, sym, ◌∙◌, arith, rules}
 use Rattle.std.proofs.lemmas.List.{take_all}
 use Rattle.frame_head.specs.Structure.{common_of}
 use Rattle.frame_head.proofs.FirstBytes.{common_of-take}

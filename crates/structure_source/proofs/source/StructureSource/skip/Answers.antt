@@ -1,5 +1,5 @@
 -- Each step by the lemma of its name on n bytes that are passed in pieces.
-use Rattle.std.proofs.Common.{◌≡◌, ℕ, ◌+◌, ◌-◌, ◌<◌, ◌≤◌, length, refl, arith}
+use Rattle.std.proofs.Common.{refl, arith}
 use Rattle.structure_source.proofs.Going.{goes-more, underway-none, underway-ready, underway-passed}
 use Rattle.structure_source.proofs.Going.{passes-short}
 use Rattle.structure_source.proofs.source.StructureSource.skip.Goals as goal
