@@ -9,3 +9,4 @@ pub mod Places
 pub mod Reading
 pub mod Slots
 pub mod Writing
+mod Taking
