@@ -1,5 +1,7 @@
 mod Faults
 mod Finding
+mod Items
+mod Joined
 mod OneReply
 mod OneVerdict
 mod Parting

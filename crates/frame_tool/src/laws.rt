@@ -1,6 +1,7 @@
 //! What holds of the definitions that the contracts cite. Nothing is computed here.
 
 ghost use Rattle.frame_tool.specs.Due.{EachRunHasADueReply, NoRunHasTwoDueReplies};
+ghost use Rattle.frame_tool.specs.Joined.{AcceptedFilesAreSound, BothNameFaultsOfLengths, WalksNameNoOthers};
 ghost use Rattle.frame_tool.specs.Walk.{EachFileHasAVerdict, NoFileHasTwoVerdicts};
 
 /// Each list of bytes has exactly one verdict.
@@ -13,4 +14,12 @@ pub fn each_file_has_one_verdict()
 pub fn each_run_has_one_due_reply()
     ensures exists { EachRunHasADueReply }
     ensures unique { NoRunHasTwoDueReplies }
+{}
+
+/// A file that `check` accepts is sound for `walk`. Where `check` names a reason of the header, of a length or of the place where
+/// a structure ends, `walk` names it at the same place, and it names no other reasons.
+pub fn walk_and_check_agree()
+    ensures sound { AcceptedFilesAreSound }
+    ensures faults { BothNameFaultsOfLengths }
+    ensures reasons { WalksNameNoOthers }
 {}

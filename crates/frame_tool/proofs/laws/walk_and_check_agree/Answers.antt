@@ -1,0 +1,6 @@
+-- The commands agree, as `Joined` proves.
+use Rattle.frame_tool.proofs.Joined.{accepted_sound, both_name, no_others}
+use Rattle.frame_tool.proofs.laws.walk_and_check_agree.Goals as goal
+
+pub returns : goal.returns
+returns c = record { sound = accepted_sound; faults = both_name; reasons = no_others }
