@@ -1,6 +1,5 @@
 -- What a walk has to say of a file that a check has judged.
-use Rattle.std.proofs.Common.{◌≡◌, ℕ, ◌+◌, ◌<◌, ◌≤◌, ◌⊎◌, inl, inr, Bool, true, false, eqb, List, [], ◌∷◌, ◌++◌, length, take, drop, Option, Some, None, Ok, Err, refl, sym, ap, subst, ◌∙◌, arith, length-append, length-drop}
-use Rattle.std.specs.Prelude.{nat_lt}
+use Rattle.std.proofs.Common.{◌≡◌, ℕ, ◌+◌, ◌<◌, ◌≤◌, ◌⊎◌, inl, inr, Bool, true, false, eqb, List, [], ◌∷◌, length, take, drop, Option, Some, None, Ok, refl, sym, ap, subst, ◌∙◌, arith, length-append, length-drop}
 use Rattle.std.proofs.lemmas.Bool.{cases_lt, le-ltb, ltb-true, eqb-false}
 use Rattle.std.proofs.lemmas.List.{nil_from_length, drop_at, drop-drop}
 use Rattle.std.proofs.lemmas.Option.{same_Some, none-some}
@@ -12,7 +11,6 @@ use Rattle.item_reader.specs.declared.reason.Reason.{Reason}
 use Rattle.item_reader.specs.declared.reason.Reason.TheVariants.{CutHeader, BadHeader, CutRecord, LengthSmall, RecordLimit, FileLimit, NoEnd, Trailing}
 use Rattle.item_reader.specs.declared.fault.Fault.{Fault}
 use Rattle.item_reader.specs.Structure.{record_limit, file_limit, common_at}
-use Rattle.item_reader.specs.Item.{Item, Before}
 use Rattle.item_reader.specs.Fault.{Here, Spot, place, left, told, here, judged, fault_at, first_of, fault_by, reasons}
 use Rattle.item_reader.specs.Fault.{IsHeaderFault as HasHeaderFault, IsItemFault}
 use Rattle.item_reader.specs.Steps.{length_reason}
@@ -37,7 +35,7 @@ accepted_sound file order frames records bytes (items, last, well, fs, rs, bs) =
 -- ---- what is judged at a place
 
 -- the first reason that holds is judged at its place and field
-first_judged : (rs : List Reason) (h : Here) (fault : Fault) → first_of rs h ≡ Some fault
+pub first_judged : (rs : List Reason) (h : Here) (fault : Fault) → first_of rs h ≡ Some fault
     → judged fault.reason h ≡ Some (fault.at, fault.field)
 first_judged [] h fault is = absurd (none-some fault is)
 first_judged (reason ∷ rs) h fault is = step (judged reason h) refl (first_judged rs h fault)
@@ -193,7 +191,7 @@ both_item file fault first of =
     less : (m n : ℕ) → m ≤ n → (m ≡ n → ⊥) → m < n
     less m n within apart = omega (arith, within, apart)
 
-both_header : (file : List ℕ) (fault : Fault) → HasHeaderFault file fault
+pub both_header : (file : List ℕ) (fault : Fault) → HasHeaderFault file fault
     → IsHeaderFault file fault.at fault.reason × (fault.field ≡ 0)
 both_header file fault (inl (short, is)) =
     let P : Fault → Type 0 = λ f. IsHeaderFault file f.at f.reason × (f.field ≡ 0) in

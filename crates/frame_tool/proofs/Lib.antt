@@ -5,6 +5,7 @@ mod Joined
 mod OneReply
 mod OneVerdict
 mod Parting
+mod Places
 mod Replies
 mod Structures
 mod Walking
