@@ -18,7 +18,8 @@ use Rattle.frame_tool.proofs.Faults.{stands_of_fits}
 abbrev bytes_of : List ℕ → Structure → List ℕ
 bytes_of file s = take (size_of s) (drop s.at file)
 
-size-within : (order : Order) (file : List ℕ) (s : Structure) → StandsWhole order file s → size_of s ≤ length (drop s.at file)
+size-within : (order : Order) (file : List ℕ) (s : Structure) → StandsWhole order file s
+    → size_of s ≤ length (drop s.at file)
 size-within order file s whole =
     let ends : end_of s ≤ length file = end_within order file s whole in
     omega (arith, ends, length-drop s.at file)
@@ -63,7 +64,8 @@ parts_more order file s to whole rest =
 
 -- a run of FrSEs in front
 parts_run : (order : Order) (file : List ℕ) (at to : ℕ) (run : List Structure) (elements : List _)
-    → AreElements order file at run elements → Parts order file (at + sum_by size_of run) to → Parts order file at to
+    → AreElements order file at run elements → Parts order file (at + sum_by size_of run) to
+    → Parts order file at to
 parts_run order file at to [] [] are rest =
     let P : ℕ → Type 0 = λ from. Parts order file from to in
     subst P (add-zero at) rest
@@ -78,7 +80,8 @@ parts_run order file at to (s ∷ ss) (e ∷ es) are rest =
     (parts_run order file (end_of s) to ss es are.2 (subst P behind rest)))
 
 -- items that each may stand after those before them
-parts_items : (order : Order) (file : List ℕ) (b : Before) (items : List Item) (last : Before) → Stand order file b items last
+parts_items : (order : Order) (file : List ℕ) (b : Before) (items : List Item) (last : Before)
+    → Stand order file b items last
     → Parts order file b.place last.place
 parts_items order file b [] last stand =
     let P : Before → Type 0 = λ end. Parts order file b.place end.place in
@@ -104,7 +107,8 @@ pub record WalksTo (file : List ℕ) (order : Order) (place : ℕ) : Type 0 wher
   pub place_is : place ≡ 40 + length (concat structures)
 
 -- so it does to the place after the items that a file begins with
-pub walks_to : (file : List ℕ) (order : Order) (items : List Item) (last : Before) → Begins file order items last
+pub walks_to : (file : List ℕ) (order : Order) (items : List Item) (last : Before)
+    → Begins file order items last
     → WalksTo file order last.place
 walks_to file order items last begins =
     let found = parts_items order file _ items last begins.stand in

@@ -29,8 +29,15 @@ accepted_sound file order frames records bytes (items, last, well, fs, rs, bs) =
     let ends : last.place ≡ length file = well.ends in
     let none : drop last.place file ≡ [] =
     nil_from_length (drop last.place file) (omega (arith, length-drop last.place file, ends)) in
-    let P : List ℕ → Type 0 = λ rest. IsWalked file order walk.structures rest in
-    (length walk.structures, record { structures = walk.structures; size = walk.size; walked = subst P none walk.walked; counted = refl })
+    let P : List ℕ → Type 0 = λ rest. IsWalked file order walk.structures rest in (
+      length walk.structures,
+      record {
+        structures = walk.structures;
+        size = walk.size;
+        walked = subst P none walk.walked;
+        counted = refl;
+      },
+    )
 
 -- ---- what is judged at a place
 
@@ -51,7 +58,8 @@ first_judged (reason ∷ rs) h fault is = step (judged reason h) refl (first_jud
     step None none later = later (sym (first_of-passes reason rs h none) ∙ is)
 
 -- a test that names a place
-here-some : (h : Here) (test : Bool) (spot : Spot) → here h test ≡ Some spot → (test ≡ true) × ((place h, 0) ≡ spot)
+here-some : (h : Here) (test : Bool) (spot : Spot) → here h test ≡ Some spot
+    → (test ≡ true) × ((place h, 0) ≡ spot)
 here-some h true spot is = (refl, same_Some (place h, 0) spot is)
 here-some h false spot is = absurd (none-some spot is)
 
@@ -61,7 +69,7 @@ here-none h true spot not is = cc
 here-none h false spot not is = none-some spot is
 
 -- where a length has a reason, the walk has it
-least_of_length : (place left told : ℕ) (reason : Reason) → 0 < left → LengthCase left told (Some reason)
+pub least_of_length : (place left told : ℕ) (reason : Reason) → 0 < left → LengthCase left told (Some reason)
     → IsLeast place left told reason
 least_of_length place left told reason some (inl (is, cut)) =
     let P : Reason → Type 0 = IsLeast place left told in
@@ -87,10 +95,12 @@ record IsSeen (h : Here) (fault : Fault) : Type 0 where
   pub least : IsLeast (place h) (left h) (told h) fault.reason
 
 -- what is too long at a place does not fit there
-long-unfit : (h : Here) (at : ℕ) → header_of (take 40 h.file) ≡ Ok h.order → Fits (left h) (told h) → at ≡ place h
+long-unfit : (h : Here) (at : ℕ) → header_of (take 40 h.file) ≡ Ok h.order → Fits (left h) (told h)
+    → at ≡ place h
     → IsTooLong h.file at → ⊥
 long-unfit h at header fits here long =
-    let orders : long.order ≡ h.order = same_order (header_of (take 40 h.file)) long.order h.order long.header header in
+    let orders : long.order ≡ h.order =
+    same_order (header_of (take 40 h.file)) long.order h.order long.header header in
     let P : Order → Type 0 = λ o. record_limit < (common_at o h.file at).length in
     let Q : ℕ → Type 0 = λ n. record_limit < (common_at h.order h.file n).length in
     let beyond : record_limit < told h = subst Q here (subst P orders long.long) in
@@ -98,7 +108,8 @@ long-unfit h at header fits here long =
     omega (arith, beyond, small)
 
 -- where a structure of the length stands whole, FileLimit alone is left
-seen_of_fits : (h : Here) (reason : Reason) (spot : Spot) → header_of (take 40 h.file) ≡ Ok h.order → Fits (left h) (told h)
+seen_of_fits : (h : Here) (reason : Reason) (spot : Spot) → header_of (take 40 h.file) ≡ Ok h.order
+    → Fits (left h) (told h)
     → judged reason h ≡ Some spot → IsOfLength h.file spot.0 reason → IsSeen h (fault_at reason spot)
 seen_of_fits h CutHeader spot header fits holds of = absurd (none-some spot holds)
 seen_of_fits h BadHeader spot header fits holds of = absurd (none-some spot holds)
@@ -119,7 +130,8 @@ seen_of_fits h FileLimit spot header fits holds of =
     }
 seen_of_fits h _ spot header fits holds of = absurd of
 
-seen_by_length : (h : Here) (fault : Fault) (found : Option Reason) → length_reason h.order h.file (place h) ≡ found
+seen_by_length : (h : Here) (fault : Fault) (found : Option Reason)
+    → length_reason h.order h.file (place h) ≡ found
     → header_of (take 40 h.file) ≡ Ok h.order → place h < length h.file → first_of reasons h ≡ Some fault
     → IsOfLength h.file fault.at fault.reason → IsSeen h fault
 seen_by_length h fault (Some reason) is header within first of =
@@ -127,7 +139,8 @@ seen_by_length h fault (Some reason) is header within first of =
     same_Some (fault_at reason (place h, 0)) fault (sym (first_of-cut h reason within is) ∙ first) in
     let P : Option Reason → Type 0 = LengthCase (left h) (told h) in
     let some : 0 < left h = omega (arith, within) in
-    let least = least_of_length (place h) (left h) (told h) reason some (subst P is (length_case (left h) (told h))) in
+    let least =
+    least_of_length (place h) (left h) (told h) reason some (subst P is (length_case (left h) (told h))) in
     subst (IsSeen h) same (record { at = refl; field = refl; least = least })
 seen_by_length h fault None is header within first of =
     seen_of_fits h fault.reason (fault.at, fault.field) header (length-fits h.order h.file (place h) is)
@@ -152,12 +165,13 @@ open_fault false false h fault is of = record { more = refl; first = is }
 -- ---- both name one fault
 
 -- a walk that comes to a place comes no farther than the end of the file
-place-within : (file : List ℕ) (order : Order) (at : ℕ) → WalksTo file order at → at ≤ length file
+pub place-within : (file : List ℕ) (order : Order) (at : ℕ) → WalksTo file order at → at ≤ length file
 place-within file order at walk =
     let place : at ≡ 40 + length (concat walk.structures) = walk.place_is in
     let size : 40 ≤ length file = walk.size in
     let parts = ap length walk.walked.parts in
-    omega (arith, place, size, parts, length-drop 40 file, length-append (concat walk.structures) (drop at file))
+    let sum = length-append (concat walk.structures) (drop at file) in
+    omega (arith, place, size, parts, length-drop 40 file, sum)
 
 -- what is seen at the place that a walk comes to is its fault
 walk_fault : (h : Here) (fault : Fault) → WalksTo h.file h.order (place h) → IsSeen h fault
@@ -173,7 +187,8 @@ walk_fault h fault walk seen =
       size = walk.size;
       walked = walk.walked;
       place = seen.at ∙ walk.place_is;
-      fault = subst Q (sym seen.at) (fault_of_least h.order (place h) (drop (place h) h.file) (told h) fault.reason refl least);
+      fault = subst Q (sym seen.at)
+          (fault_of_least h.order (place h) (drop (place h) h.file) (told h) fault.reason refl least);
     }
 
 both_item : (file : List ℕ) (fault : Fault) → IsItemFault file fault → IsOfLength file fault.at fault.reason
@@ -185,7 +200,9 @@ both_item file fault first of =
     let apart = eqb-false (place h) (length file) open_here.more in
     let reached : place h ≤ length file = place-within file first.order (place h) walk in
     let within : place h < length file = less (place h) (length file) reached apart in
-    let seen = seen_by_length h fault (length_reason first.order file (place h)) refl first.begins.header within open_here.first of in
+    let seen =
+    seen_by_length h fault (length_reason first.order file (place h)) refl
+    first.begins.header within open_here.first of in
     (walk_fault h fault walk seen, seen.field)
   where
     less : (m n : ℕ) → m ≤ n → (m ≡ n → ⊥) → m < n
@@ -211,27 +228,34 @@ both_name file fault (inr first) of =
 
 -- ---- the reasons of a walk
 
-header_reason : (file : List ℕ) (at : ℕ) (reason : Reason) → IsHeaderFault file at reason → IsOfLength file at reason
+header_reason : (file : List ℕ) (at : ℕ) (reason : Reason) → IsHeaderFault file at reason
+    → IsOfLength file at reason
 header_reason file at CutHeader fault = tt
 header_reason file at BadHeader fault = tt
 header_reason file at _ fault = absurd fault
 
-structure_reason : (file : List ℕ) (at : ℕ) (reason : Reason) (order : Order) → header_of (take 40 file) ≡ Ok order
+structure_reason : (file : List ℕ) (at : ℕ) (reason : Reason) (order : Order)
+    → header_of (take 40 file) ≡ Ok order
     → Holds reason at (length (drop at file)) (common_at order file at).length → IsOfLength file at reason
 structure_reason file at CutRecord order header holds = tt
 structure_reason file at LengthSmall order header holds = tt
-structure_reason file at RecordLimit order header holds = record { order = order; header = header; long = holds.1 }
+structure_reason file at RecordLimit order header holds =
+    record { order = order; header = header; long = holds.1 }
 structure_reason file at FileLimit order header holds = tt
 structure_reason file at _ order header holds = absurd holds
+
+-- the rest with a walk's fault is what the file has from its place on
+pub rest_there : (file : List ℕ) (at : ℕ) (reason : Reason) (fault : IsStructureFault file at reason)
+    → fault.rest ≡ drop at file
+rest_there file at reason fault =
+    sym (ap (drop (length (concat fault.structures))) fault.walked.parts
+    ∙ drop_at (concat fault.structures) fault.rest (length (concat fault.structures)) refl)
+    ∙ drop-drop (length (concat fault.structures)) 40 file
+    ∙ ap (λ (n : ℕ). drop n file) (sym fault.place)
 
 pub no_others : WalksNameNoOthers
 no_others file at reason (inl fault) = header_reason file at reason fault
 no_others file at reason (inr fault) =
-    let size : ℕ = length (concat fault.structures) in
-    let rest : fault.rest ≡ drop at file =
-    sym (ap (drop (length (concat fault.structures))) fault.walked.parts
-    ∙ drop_at (concat fault.structures) fault.rest (length (concat fault.structures)) refl)
-    ∙ drop-drop (length (concat fault.structures)) 40 file
-    ∙ ap (λ (n : ℕ). drop n file) (sym fault.place) in
     let P : List ℕ → Type 0 = λ bytes. Holds reason at (length bytes) (common_of fault.order bytes).length in
-    structure_reason file at reason fault.order fault.walked.header (subst P rest fault.fault.holds)
+    structure_reason file at reason fault.order fault.walked.header
+    (subst P (rest_there file at reason fault) fault.fault.holds)

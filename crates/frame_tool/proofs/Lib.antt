@@ -2,6 +2,7 @@ mod Faults
 mod Finding
 mod Items
 mod Joined
+mod OnePlace
 mod OneReply
 mod OneVerdict
 mod Parting

@@ -85,7 +85,8 @@ no_farther order place (front ∷ fronts) [] rest other same stand ended =
     (sym same ∙ append_assoc front (concat fronts) rest) ended)
 no_farther order place (front ∷ fronts) (one ∷ more) rest other same stand ended =
     let heads : (front ≡ one) × (concat fronts ++ rest ≡ concat more ++ other) =
-    same_structure order front one (concat fronts ++ rest) (concat more ++ other) stand.0.whole ended.stand.0.whole
+    same_structure order front one (concat fronts ++ rest) (concat more ++ other)
+    stand.0.whole ended.stand.0.whole
     (sym (append_assoc front (concat fronts) rest) ∙ same ∙ append_assoc one (concat more) other) in
     let P : List ℕ → Type 0 = λ first. IsEnded order (place + length first) more other in
     let tails : length (concat fronts) ≤ length (concat more) =

@@ -17,7 +17,7 @@ use Rattle.item_reader.specs.Kind.{kind_of, is_end_kind}
 use Rattle.item_reader.specs.Record.{weight_of, first_loose}
 use Rattle.item_reader.specs.Item.{Item, EntryItem, OtherItem, Before, after_kind, after}
 use Rattle.item_reader.specs.MayStand.{Stand}
-use Rattle.item_reader.specs.Fault.{Here, Spot, place, kind, held, body_fault, refusal, here, here_at, judged, fault_at, fault_by, reasons}
+use Rattle.item_reader.specs.Fault.{Here, Spot, place, kind, held, body_fault, refusal, here, here_at, judged, fault_at, fault_by, reasons, IsItemFault}
 use Rattle.item_reader.proofs.Advance.{moves}
 use Rattle.item_reader.proofs.Headers.{same_order}
 use Rattle.frame_tool.specs.declared.verdict.Verdict.TheVariants.{Wrong}
@@ -34,9 +34,11 @@ use Rattle.frame_tool.proofs.Parting.{IsEnded, no_farther}
 abbrev AreBefore : ℕ → List Structure → Type 0
 AreBefore place structures = All (λ s. s.at ≤ place) structures
 
-later : (place next : ℕ) (structures : List Structure) → place ≤ next → AreBefore place structures → AreBefore next structures
+later : (place next : ℕ) (structures : List Structure) → place ≤ next → AreBefore place structures
+    → AreBefore next structures
 later place next structures within before =
-    All-weaker (λ s. s.at ≤ place) (λ s. s.at ≤ next) (λ s first. omega (arith, first, within)) structures before
+    All-weaker (λ s. s.at ≤ place) (λ s. s.at ≤ next) (λ s first. omega (arith, first, within))
+    structures before
 
 -- the records of a frame do, whatever comes after them
 before_kind : (kind : Kind) (b : Before) (s : Structure) (weight : ℕ) → s.at ≡ b.place
@@ -54,7 +56,8 @@ before_kind FrEndOfFile b s weight at within before = later b.place (end_of s) b
 before_kind FrSH b s weight at within before = later b.place (end_of s) b.frame within before
 before_kind FrSE b s weight at within before = later b.place (end_of s) b.frame within before
 
-before_items : (order : Order) (file : List ℕ) (b : Before) (items : List Item) (last : Before) → Stand order file b items last
+before_items : (order : Order) (file : List ℕ) (b : Before) (items : List Item) (last : Before)
+    → Stand order file b items last
     → AreBefore b.place b.frame → AreBefore last.place last.frame
 before_items order file b [] last stand before =
     let P : Before → Type 0 = λ end. AreBefore end.place end.frame in
@@ -68,10 +71,12 @@ before_items order file b (OtherItem s ∷ others) last stand before =
     let step = moves order file b (OtherItem s) stand.0 in
     let within : b.place ≤ (after order b (OtherItem s)).place = omega (arith, step.past) in
     before_items order file (after order b (OtherItem s)) others last stand.1
-    (before_kind (kind_of b.dictionary s.class) b s (weight_of order b.dictionary s) stand.0.1.here within before)
+    (before_kind (kind_of b.dictionary s.class) b s (weight_of order b.dictionary s)
+    stand.0.1.here within before)
 
 -- the place that a test names, and that a part names by such a test
-at_place : (h : Here) (field : ℕ) (test : Bool) (spot : Spot) → here_at h field test ≡ Some spot → spot.0 ≤ place h
+at_place : (h : Here) (field : ℕ) (test : Bool) (spot : Spot) → here_at h field test ≡ Some spot
+    → spot.0 ≤ place h
 at_place h field true spot is =
     let same : place h ≡ spot.0 = ap (λ (s : Spot). s.0) (same_Some (place h, field) spot is) in
     omega (arith, same)
@@ -84,20 +89,25 @@ at_here h true spot is =
 at_here h false spot is = absurd (none-some spot is)
 
 at_part : {A : Type 0} (part : A → Option Spot) (place : ℕ) (found : Option A) (spot : Spot)
-    → ((a : A) → part a ≡ Some spot → spot.0 ≤ place) → option_and_then part found ≡ Some spot → spot.0 ≤ place
+    → ((a : A) → part a ≡ Some spot → spot.0 ≤ place) → option_and_then part found ≡ Some spot
+    → spot.0 ≤ place
 at_part part place None spot each is = absurd (none-some spot is)
 at_part part place (Some a) spot each is = each a is
 
 -- the place of a loose link
-loose_more : (order : Order) (entries : List _) (frame : List Structure) (s : Structure) (ss : List Structure) (place : ℕ)
-    (spot : Spot) (found : Option ℕ) → s.at ≤ place → (first_loose order entries frame ss ≡ Some spot → spot.0 ≤ place)
-    → option_map_or (λ field. Some (s.at, field)) found (first_loose order entries frame ss) ≡ Some spot → spot.0 ≤ place
+loose_more : (order : Order) (entries : List _) (frame : List Structure) (s : Structure)
+    (ss : List Structure) (place : ℕ)
+    (spot : Spot) (found : Option ℕ) → s.at ≤ place → (first_loose order entries frame ss ≡ Some spot
+    → spot.0 ≤ place)
+    → option_map_or (λ field. Some (s.at, field)) found (first_loose order entries frame ss) ≡ Some spot
+    → spot.0 ≤ place
 loose_more order entries frame s ss place spot None first others is = others is
 loose_more order entries frame s ss place spot (Some field) first others is =
     let same : s.at ≡ spot.0 = ap (λ (x : Spot). x.0) (same_Some (s.at, field) spot is) in
     omega (arith, same, first)
 
-at_loose : (order : Order) (entries : List _) (frame records : List Structure) (place : ℕ) (spot : Spot) → AreBefore place records
+at_loose : (order : Order) (entries : List _) (frame records : List Structure) (place : ℕ) (spot : Spot)
+    → AreBefore place records
     → first_loose order entries frame records ≡ Some spot → spot.0 ≤ place
 at_loose order entries frame [] place spot before is = absurd (none-some spot is)
 at_loose order entries frame (s ∷ ss) place spot before is =
@@ -112,7 +122,8 @@ at_end h true found spot each is = each is
 at_end h false found spot each is = absurd (none-some spot is)
 
 -- a reason is judged there or before
-judged-within : (reason : Reason) (h : Here) (spot : Spot) → AreBefore (place h) h.before.frame → judged reason h ≡ Some spot
+judged-within : (reason : Reason) (h : Here) (spot : Spot) → AreBefore (place h) h.before.frame
+    → judged reason h ≡ Some spot
     → spot.0 ≤ place h
 judged-within CutRecord h spot before is = at_here h _ spot is
 judged-within LengthSmall h spot before is = at_here h _ spot is
@@ -120,9 +131,12 @@ judged-within RecordLimit h spot before is = at_here h _ spot is
 judged-within FrameLimit h spot before is = at_here h _ spot is
 judged-within NoLayout h spot before is = at_here h _ spot is
 judged-within UnreadLayout h spot before is = at_here h _ spot is
-judged-within BodyShort h spot before is = at_part _ (place h) (body_fault h) spot (λ f. at_place h f.field _ spot) is
-judged-within BodyLong h spot before is = at_part _ (place h) (body_fault h) spot (λ f. at_place h f.field _ spot) is
-judged-within BadText h spot before is = at_part _ (place h) (body_fault h) spot (λ f. at_place h f.field _ spot) is
+judged-within BodyShort h spot before is =
+    at_part _ (place h) (body_fault h) spot (λ f. at_place h f.field _ spot) is
+judged-within BodyLong h spot before is =
+    at_part _ (place h) (body_fault h) spot (λ f. at_place h f.field _ spot) is
+judged-within BadText h spot before is =
+    at_part _ (place h) (body_fault h) spot (λ f. at_place h f.field _ spot) is
 judged-within StrayElement h spot before is = at_here h _ spot is
 judged-within ClassRange h spot before is = at_part _ (place h) (refusal h) spot (λ f. at_here h _ spot) is
 judged-within Redefined h spot before is = at_part _ (place h) (refusal h) spot (λ f. at_here h _ spot) is
@@ -147,10 +161,12 @@ fault-within : (closed ends : Bool) (h : Here) (fault : Fault) → AreBefore (pl
     → fault_by closed ends h ≡ Some fault → fault.at ≤ place h
 fault-within true true h fault before is = absurd (none-some fault is)
 fault-within true false h fault before is =
-    let same : place h ≡ fault.at = ap (λ (f : Fault). f.at) (same_Some (fault_at Trailing (place h, 0)) fault is) in
+    let same : place h ≡ fault.at =
+    ap (λ (f : Fault). f.at) (same_Some (fault_at Trailing (place h, 0)) fault is) in
     omega (arith, same)
 fault-within false true h fault before is =
-    let same : place h ≡ fault.at = ap (λ (f : Fault). f.at) (same_Some (fault_at NoEnd (place h, 0)) fault is) in
+    let same : place h ≡ fault.at =
+    ap (λ (f : Fault). f.at) (same_Some (fault_at NoEnd (place h, 0)) fault is) in
     omega (arith, same)
 fault-within false false h fault before is =
     judged-within fault.reason h (fault.at, fault.field) before (first_judged reasons h fault is)
@@ -174,6 +190,19 @@ walk-beyond file order place at reason walk fault =
     let other : at ≡ 40 + length (concat fault.structures) = fault.place in
     omega (arith, size, one, other)
 
+-- the place that the items come to is between the two
+pub place-between : (file : List ℕ) (at : ℕ) (reason : Reason) (fault : Fault)
+    → IsStructureFault file at reason
+    → (first : IsItemFault file fault) → (fault.at ≤ first.last.place) × (first.last.place ≤ at)
+place-between file at reason fault wrong first =
+    let h : Here = record { order = first.order; file = file; before = first.last } in
+    let walk = walks_to file first.order first.items first.last first.begins in
+    let none = All-nil (λ (s : Structure). s.at ≤ 40) in
+    let before = before_items first.order file _ first.items first.last first.begins.stand none in (
+      fault-within first.last.closed (eqb first.last.place (length file)) h fault before first.holds,
+      walk-beyond file first.order first.last.place at reason walk wrong,
+    )
+
 pub not_earlier : NoWalkFaultIsEarlier
 not_earlier file at reason fault wrong (inl header) =
     let both = both_header file fault header in
@@ -184,10 +213,7 @@ not_earlier file at reason fault wrong (inl header) =
 not_earlier file at reason fault (inl header) (inr first) =
     absurd (header-unfaulted file at reason first.order first.begins.size first.begins.header header)
 not_earlier file at reason fault (inr wrong) (inr first) =
-    let h : Here = record { order = first.order; file = file; before = first.last } in
-    let walk = walks_to file first.order first.items first.last first.begins in
-    let before = before_items first.order file _ first.items first.last first.begins.stand (All-nil (λ s. s.at ≤ 40)) in
-    let within : fault.at ≤ first.last.place =
-    fault-within first.last.closed (eqb first.last.place (length file)) h fault before first.holds in
-    let beyond : first.last.place ≤ at = walk-beyond file first.order first.last.place at reason walk wrong in
-    omega (arith, within, beyond)
+    let between = place-between file at reason fault wrong first in
+    let lower : fault.at ≤ first.last.place = between.0 in
+    let upper : first.last.place ≤ at = between.1 in
+    omega (arith, lower, upper)

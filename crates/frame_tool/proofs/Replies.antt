@@ -48,11 +48,13 @@ among_due outcome due command (inr (inr full)) may =
     subst P (sym full) tt
 
 -- what is due by a verdict, and by what is found
-pub walk_among : (verdict : Verdict) (name : List ℕ) → IsAmong (walk_reply verdict).outcome (Some (WalkFile name))
+pub walk_among : (verdict : Verdict) (name : List ℕ)
+    → IsAmong (walk_reply verdict).outcome (Some (WalkFile name))
 walk_among (Sound order count) name = tt
 walk_among (Wrong at reason) name = (refl, refl)
 
-pub check_among : (finding : Finding) (name : List ℕ) → IsAmong (check_reply finding).outcome (Some (CheckFile name))
+pub check_among : (finding : Finding) (name : List ℕ)
+    → IsAmong (check_reply finding).outcome (Some (CheckFile name))
 check_among (Accepted order frames records bytes) name = tt
 check_among (Refused fault) name = refl
 
