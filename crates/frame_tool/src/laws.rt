@@ -17,9 +17,10 @@ pub fn each_run_has_one_due_reply()
     ensures unique { NoRunHasTwoDueReplies }
 {}
 
-/// A file that `check` accepts is sound for `walk`. Where `check` names a reason of the header, of a length or of the place where
-/// a structure ends, `walk` names it at the same place; and `walk` names no other reasons, and none before the place of the fault
-/// that `check` names. Where both stand at one place the reasons are one, but where `walk` names FileLimit or `check` Trailing.
+/// A file that `check` accepts is sound for `walk`. Where `check` names a reason of the header, of a length or of
+/// the place where a structure ends, `walk` names it at the same place; and `walk` names no other reasons, and none
+/// before the place of the fault that `check` names. Where both stand at one place the reasons are one, but where
+/// `walk` names FileLimit or `check` Trailing.
 pub fn walk_and_check_agree()
     ensures sound { AcceptedFilesAreSound }
     ensures faults { BothNameFaultsOfLengths }
