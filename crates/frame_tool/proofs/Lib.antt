@@ -1,8 +1,12 @@
 mod Faults
 mod Finding
+mod Items
+mod Joined
+mod OnePlace
 mod OneReply
 mod OneVerdict
 mod Parting
+mod Places
 mod Replies
 mod Structures
 mod Walking

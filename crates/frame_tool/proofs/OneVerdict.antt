@@ -37,7 +37,7 @@ same_head_fault : (header : Result Order HeadFault) (first second : HeadFault) �
 same_head_fault header first second left right = cc
 
 -- a header that is read has no fault
-header-unfaulted : (file : List ℕ) (at : ℕ) (reason : Reason) (order : Order) → 40 ≤ length file
+pub header-unfaulted : (file : List ℕ) (at : ℕ) (reason : Reason) (order : Order) → 40 ≤ length file
     → header_of (take 40 file) ≡ Ok order → IsHeaderFault file at reason → ⊥
 header-unfaulted file at CutHeader order size read fault = omega (arith, size, fault.0)
 header-unfaulted file at BadHeader order size read fault =

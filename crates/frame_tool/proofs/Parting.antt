@@ -78,6 +78,26 @@ same_parts order place (structure ∷ others) (one ∷ more) rest other same lef
     (subst P (sym heads.0) (ended-tail order place one more other right)) in
     (cc, tails.1)
 
+-- what may stand at the front comes no farther than an end does
+pub no_farther : (order : Order) (place : ℕ) (fronts structures : List (List ℕ)) (rest other : List ℕ)
+    → concat fronts ++ rest ≡ concat structures ++ other → StandFrom order place fronts
+    → IsEnded order place structures other → length (concat fronts) ≤ length (concat structures)
+no_farther order place [] structures rest other same stand ended = omega arith
+no_farther order place (front ∷ fronts) [] rest other same stand ended =
+    absurd (no_end_here order place other front (concat fronts ++ rest) stand.0
+    (sym same ∙ append_assoc front (concat fronts) rest) ended)
+no_farther order place (front ∷ fronts) (one ∷ more) rest other same stand ended =
+    let heads : (front ≡ one) × (concat fronts ++ rest ≡ concat more ++ other) =
+    same_structure order front one (concat fronts ++ rest) (concat more ++ other)
+    stand.0.whole ended.stand.0.whole
+    (sym (append_assoc front (concat fronts) rest) ∙ same ∙ append_assoc one (concat more) other) in
+    let P : List ℕ → Type 0 = λ first. IsEnded order (place + length first) more other in
+    let tails : length (concat fronts) ≤ length (concat more) =
+    no_farther order (place + length front) fronts more rest other heads.1 stand.1
+    (subst P (sym heads.0) (ended-tail order place one more other ended)) in
+    let long : length front ≡ length one = ap length heads.0 in
+    omega (arith, tails, long, length-append front (concat fronts), length-append one (concat more))
+
 -- bytes parted at their end
 pub record Parted (order : Order) (place : ℕ) (bytes : List ℕ) : Type 0 where
   pub structures : List (List ℕ)

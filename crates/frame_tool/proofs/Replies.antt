@@ -1,12 +1,18 @@
 -- The reply that is due to a run, by what was found and printed.
-use Rattle.std.proofs.Common.{◌≡◌, ℕ, ◌<◌, List, length, Option, Some, None, IsSome, Ok, IsErrOf, refl, sym, subst}
-use Rattle.std.proofs.Common.{arith}
+use Rattle.std.proofs.Common.{◌≡◌, ℕ, ◌<◌, ◌≤◌, List, length, Option, Some, None, IsSome, Ok, IsErrOf, inl, inr, refl}
+use Rattle.std.proofs.Common.{sym, subst, arith}
 use Rattle.std.proofs.lemmas.List.{take_all}
 use Rattle.frame_outside.specs.Shelf.{Outside, Files, Told}
 use Rattle.frame_outside.specs.Sink.{Output, Appends}
 use Rattle.frame_tool.specs.declared.outcome.Outcome.{Outcome}
 use Rattle.frame_tool.specs.declared.outcome.Outcome.TheVariants.{Device, NoMemory}
-use Rattle.frame_tool.specs.Due.{Reply, IsFileDue, Prints, AppendsFront, reply_with}
+use Rattle.frame_tool.specs.declared.verdict.Verdict.{Verdict}
+use Rattle.frame_tool.specs.declared.verdict.Verdict.TheVariants.{Sound, Wrong}
+use Rattle.frame_tool.specs.declared.judgement.Finding.{Finding}
+use Rattle.frame_tool.specs.declared.judgement.Finding.TheVariants.{Accepted, Refused}
+use Rattle.frame_tool.specs.Words.{Form, WalkFile, CheckFile}
+use Rattle.frame_tool.specs.Due.{Reply, IsFileDue, IsAnswer, IsAmong, Prints, AppendsFront, reply_with, walk_reply}
+use Rattle.frame_tool.specs.Due.{check_reply}
 use Rattle.frame_tool.specs.WalkSteps.{ReadsOneFile}
 use Rattle.frame_tool.proofs.OneReply.{NoneHasTwo, file_dues}
 
@@ -23,6 +29,37 @@ pub prints_whole : (outcome : Outcome) (text : List ℕ) (old new : Output) → 
 prints_whole Device text old new appends = whole_front text old new appends
 prints_whole NoMemory text old new appends = whole_front text old new appends
 prints_whole _ text old new appends = appends
+
+-- what was printed took no fault back
+pub prints_faults : (outcome : Outcome) (text : List ℕ) (old new : Output) → Prints outcome text old new
+    → old.faults ≤ new.faults
+prints_faults Device text old new prints = prints.appends.faults
+prints_faults NoMemory text old new prints = prints.appends.faults
+prints_faults _ text old new prints = prints.faults
+
+-- an answer where one of the command's is due is one of the command's
+pub among_due : (outcome due : Outcome) (command : Option Form) → IsAnswer outcome due → IsAmong due command
+    → IsAmong outcome command
+among_due outcome due command (inl same) may =
+    let P : Outcome → Type 0 = λ answer. IsAmong answer command in
+    subst P (sym same) may
+among_due outcome due command (inr (inl device)) may =
+    let P : Outcome → Type 0 = λ answer. IsAmong answer command in
+    subst P (sym device) tt
+among_due outcome due command (inr (inr full)) may =
+    let P : Outcome → Type 0 = λ answer. IsAmong answer command in
+    subst P (sym full) tt
+
+-- what is due by a verdict, and by what is found
+pub walk_among : (verdict : Verdict) (name : List ℕ)
+    → IsAmong (walk_reply verdict).outcome (Some (WalkFile name))
+walk_among (Sound order count) name = tt
+walk_among (Wrong at reason) name = (refl, refl)
+
+pub check_among : (finding : Finding) (name : List ℕ)
+    → IsAmong (check_reply finding).outcome (Some (CheckFile name))
+check_among (Accepted order frames records bytes) name = tt
+check_among (Refused fault) name = refl
 
 due_by : {A : Type 0} (is : List ℕ → A → Type 0) (reply_of : A → Reply) (held : Option (List ℕ)) (a : A)
     → Told held (λ file. is file a) → (held ≡ None → ⊥) → IsFileDue is reply_of held (reply_of a)

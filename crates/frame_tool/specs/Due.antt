@@ -1,5 +1,5 @@
 -- The reply that is due to words over files: the answer, and the text that is printed.
-use Rattle.std.specs.Prelude.{◌≡◌, ℕ, List, ◌++◌, codes, Option, Some, None, ◌⊎◌, take}
+use Rattle.std.specs.Prelude.{◌≡◌, ℕ, List, ◌++◌, codes, Option, Some, None, ◌⊎◌, ⊤, take}
 use Rattle.std.specs.Fmt.{decimal}
 use Rattle.scalar_types.specs.declared.Order.{Order}
 use Rattle.scalar_types.specs.declared.Order.TheVariants.{Big, Little}
@@ -75,6 +75,16 @@ IsDue files words reply = IsCommandDue files (command_of words) reply
 -- an answer where this one is due; two may come in its place
 abbrev pub IsAnswer : Outcome → Outcome → Type 0
 IsAnswer outcome due = (outcome ≡ due) ⊎ ((outcome ≡ Device) ⊎ (outcome ≡ NoMemory))
+
+-- The answers of a command, whatever the files hold: the one input has number 0, and a walk names field 0.
+abbrev pub IsAmong : Outcome → Option Form → Type 0
+IsAmong Device command = ⊤
+IsAmong NoMemory command = ⊤
+IsAmong Usage None = ⊤
+IsAmong Done (Some form) = ⊤
+IsAmong (Fault file at field reason) (Some (WalkFile name)) = (file ≡ 0) × (field ≡ 0)
+IsAmong (Fault file at field reason) (Some (CheckFile name)) = file ≡ 0
+IsAmong _ command = ⊥
 
 -- a front of the text was appended
 pub record AppendsFront (old new : Output) (text : List ℕ) : Type 0 where

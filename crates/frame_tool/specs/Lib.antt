@@ -3,4 +3,5 @@ pub mod Words
 pub mod Walk
 pub mod WalkSteps
 pub mod Check
+pub mod Joined
 pub mod Due

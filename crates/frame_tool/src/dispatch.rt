@@ -1,10 +1,11 @@
 //! One run of the program: from the words to the answer and the printed text.
 
-ghost use Rattle.std.specs.Prelude.{◌≡◌, ◌⊎◌, ◌+◌, ◌≤◌, ◌<◌, length, take, None};
+ghost use Rattle.std.specs.Prelude.{◌≡◌, ◌⊎◌, ◌+◌, ◌≤◌, ◌<◌, length, take, None, Some};
 ghost use Rattle.frame_outside.specs.Counts.{Rose};
 ghost use Rattle.frame_outside.specs.Shelf.{Told};
-ghost use Rattle.frame_tool.specs.Words.{command_of, texts};
-ghost use Rattle.frame_tool.specs.Due.{Reply, IsDue, IsWalkDue, IsCheckDue, IsAnswer, Prints, reply_with};
+ghost use Rattle.frame_tool.specs.Words.{WalkFile, CheckFile, command_of, texts};
+ghost use Rattle.frame_tool.specs.Due.{Reply, IsDue, IsWalkDue, IsCheckDue, IsAnswer, IsAmong, Prints};
+ghost use Rattle.frame_tool.specs.Due.{reply_with};
 ghost use Rattle.frame_tool.specs.WalkSteps.{ReadsOneFile};
 
 use crate::answer::{answer_check, answer_line, answer_walk};
@@ -32,10 +33,14 @@ pub fn run<S: Shelf, O: Sink>(
         → Prints result reply.text (O.output out.old) (O.output out.new)) }
 
     // Over every shelf, also one that tells nothing.
+    ensures among { IsAmong result (command_of (texts words.now)) }
     ensures usage { result ≡ Outcome.Usage → command_of (texts words.now) ≡ None }
     ensures no_command { command_of (texts words.now) ≡ None → IsAnswer result Outcome.Usage }
     ensures device { result ≡ Outcome.Device → Rose (S.outside shelf.old).faults (S.outside shelf.new).faults
         ⊎ Rose (O.output out.old).faults (O.output out.new).faults }
+    ensures counts { ((S.outside shelf.old).faults ≤ (S.outside shelf.new).faults)
+        × ((S.outside shelf.old).misses ≤ (S.outside shelf.new).misses) }
+    ensures sink { (O.output out.old).faults ≤ (O.output out.new).faults }
 
     // What the shelf is then.
     ensures files { (S.outside shelf.new).files ≡ (S.outside shelf.old).files }
@@ -59,9 +64,10 @@ fn run_walk<S: Shelf, O: Sink>(alloc: Global, file: &str, shelf: &mut S, out: &m
         → IsWalkDue (files file.now) reply → IsAnswer result reply.outcome) }
     ensures text { Told (S.outside shelf.old).files (λ files. (reply : Reply) → IsWalkDue (files file.now) reply
         → Prints result reply.text (O.output out.old) (O.output out.new)) }
-    ensures command { result ≡ Outcome.Usage → ⊥ }
+    ensures among { IsAmong result (Some (WalkFile file.now)) }
     ensures device { result ≡ Outcome.Device → Rose (S.outside shelf.old).faults (S.outside shelf.new).faults
         ⊎ Rose (O.output out.old).faults (O.output out.new).faults }
+    ensures sink { (O.output out.old).faults ≤ (O.output out.new).faults }
     ensures shelf { ReadsOneFile (S.outside shelf.old) (S.outside shelf.new) file.now }
     ensures misses { Told (S.outside shelf.old).files
         (λ files. (S.outside shelf.old).misses < (S.outside shelf.new).misses
@@ -80,9 +86,10 @@ fn run_check<S: Shelf, O: Sink>(alloc: Global, file: &str, shelf: &mut S, out: &
         → IsCheckDue (files file.now) reply → IsAnswer result reply.outcome) }
     ensures text { Told (S.outside shelf.old).files (λ files. (reply : Reply)
         → IsCheckDue (files file.now) reply → Prints result reply.text (O.output out.old) (O.output out.new)) }
-    ensures command { result ≡ Outcome.Usage → ⊥ }
+    ensures among { IsAmong result (Some (CheckFile file.now)) }
     ensures device { result ≡ Outcome.Device → Rose (S.outside shelf.old).faults (S.outside shelf.new).faults
         ⊎ Rose (O.output out.old).faults (O.output out.new).faults }
+    ensures sink { (O.output out.old).faults ≤ (O.output out.new).faults }
     ensures shelf { ReadsOneFile (S.outside shelf.old) (S.outside shelf.new) file.now }
     ensures misses { Told (S.outside shelf.old).files
         (λ files. (S.outside shelf.old).misses < (S.outside shelf.new).misses

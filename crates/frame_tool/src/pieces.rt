@@ -44,7 +44,7 @@ fn joined(alloc: Global, pieces: &[Piece]) -> Result<Vec<u8>, AllocError> {
     Ok(file)
 }
 
-pub fn range(bytes: &'static [u8], from: usize, to: usize) -> &'static [u8] {
+pub fn range(bytes: &[u8], from: usize, to: usize) -> &[u8] {
     let to = to.min(bytes.len());
     &bytes[from.min(to)..to]
 }

@@ -1,26 +1,9 @@
 //! Runs of `walk` over a shelf and a sink in memory: worked files with the text and the status that each gives, and calls that
 //! fail in turn.
 
-use crate::worked_files::{BIG, LITTLE, Outside, WHOLE, run_over};
+use crate::worked_files::{BIG, LITTLE, ONE_FRAME, Outside, WHOLE, changed, run_over};
 use std::alloc::{AllocError, Global};
 use std::test::Fail;
-
-/// The first `size` bytes of a file, with other bytes at a place.
-fn changed(
-    alloc: Global,
-    base: &[u8],
-    size: usize,
-    at: usize,
-    bytes: &[u8],
-) -> Result<Vec<u8>, AllocError> {
-    let base = &base[..size.min(base.len())];
-    let end = at.saturating_add(bytes.len()).min(base.len());
-    let mut file = Vec::new(alloc);
-    file.extend_from_slice(&base[..at.min(base.len())])?;
-    file.extend_from_slice(bytes)?;
-    file.extend_from_slice(&base[end..])?;
-    Ok(file)
-}
 
 #[test]
 fn walks_worked_files(rt: HostRuntime) -> Result<(), Fail> {
@@ -29,6 +12,14 @@ fn walks_worked_files(rt: HostRuntime) -> Result<(), Fail> {
     let rows = [
         (LITTLE, 273, 0, none, 0, "order: little\nstructures: 6\n"),
         (BIG, 273, 0, none, 0, "order: big\nstructures: 6\n"),
+        (
+            ONE_FRAME,
+            3637,
+            0,
+            none,
+            0,
+            "order: little\nstructures: 80\n",
+        ),
         (
             LITTLE,
             39,

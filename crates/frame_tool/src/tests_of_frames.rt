@@ -1,7 +1,8 @@
 //! Runs of `check` over frames and closings that may stand or may not.
 
 use crate::pieces::Piece::{Bare, Bytes, Full, Rest, Times};
-use crate::pieces::{Row, check_rows};
+use crate::pieces::{Row, check_rows, range};
+use crate::worked_files::{ONE_FRAME, Outside, WHOLE, changed, run_over};
 use std::test::Fail;
 
 #[test]
@@ -115,6 +116,60 @@ fn judges_frames(rt: HostRuntime) -> Result<(), Fail> {
         ),
     ];
     check_rows(&rt, rt.alloc(), rows.as_slice())?;
+    Ok(())
+}
+
+/// An instance for each record before the end record of the file of one frame, and the places where its instance and the one
+/// link to it stand. FrameH has no link to it.
+const INSTANCES: [(u8, usize, usize); 9] = [
+    (92, 579, 579),
+    (93, 819, 614),
+    (94, 1139, 632),
+    (95, 1495, 831),
+    (96, 2147, 1520),
+    (97, 2237, 1526),
+    (98, 2286, 2262),
+    (99, 2376, 2268),
+    (100, 2425, 2401),
+];
+
+/// The pieces of the file of one frame with these records in reverse order, each after its entry.
+const REVERSED: [(usize, usize); 13] = [
+    (0, 40),
+    (1534, 2137),
+    (2415, 2505),
+    (1180, 1485),
+    (2366, 2415),
+    (2276, 2366),
+    (2227, 2276),
+    (2137, 2227),
+    (1485, 1534),
+    (839, 1180),
+    (640, 839),
+    (40, 640),
+    (2505, 3637),
+];
+
+#[test]
+fn accepts_other_instances_in_reverse_order(rt: HostRuntime) -> Result<(), Fail> {
+    let alloc = rt.alloc();
+    // nBytes and seekTOC are 0
+    let mut whole = changed(alloc, ONE_FRAME, 3637, 3617, &[0; 16])?;
+    for (instance, record, link) in INSTANCES {
+        whole = changed(alloc, whole.as_slice(), 3637, record, &[instance])?;
+        whole = changed(alloc, whole.as_slice(), 3637, link, &[instance])?;
+    }
+    let mut file = Vec::new(alloc);
+    for (from, to) in REVERSED {
+        file.extend_from_slice(range(whole.as_slice(), from, to))?;
+    }
+    for most in [usize::MAX, 1] {
+        let outside = Outside { most, ..WHOLE };
+        let (status, printed) = run_over(alloc, outside, file.as_slice(), &["check", "f"])?;
+        let text = "accepted\norder: little\nframes: 1\nrecords: 10\nbytes: 3637\n";
+        assert_eq!(rt; printed.as_slice(), text.as_bytes());
+        assert_eq!(rt; status, 0);
+    }
     Ok(())
 }
 

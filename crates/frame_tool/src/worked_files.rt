@@ -115,6 +115,23 @@ pub const ONE_FRAME: &[u8] = b"\
     '\0\0\0\0\0\0\0\0\x02\x03\0\0\0\x07\0chkSum\0\x07\0INT_4U\0\x01\0\0\0\0\0\0\
     &\0\0\0\0\0\0\0\0\x0b\0\0\0\0\x01\0\0\05\x0e\0\0\0\0\0\0D\x01\0\0\0\0\0\0\0\0\0\0";
 
+/// The first `size` bytes of a file, with other bytes at a place.
+pub fn changed(
+    alloc: Global,
+    base: &[u8],
+    size: usize,
+    at: usize,
+    bytes: &[u8],
+) -> Result<Vec<u8>, AllocError> {
+    let base = &base[..size.min(base.len())];
+    let end = at.saturating_add(bytes.len()).min(base.len());
+    let mut file = Vec::new(alloc);
+    file.extend_from_slice(&base[..at.min(base.len())])?;
+    file.extend_from_slice(bytes)?;
+    file.extend_from_slice(&base[end..])?;
+    Ok(file)
+}
+
 /// Which calls fail, and how many bytes one call gives.
 #[derive(Clone, Copy)]
 pub struct Outside {

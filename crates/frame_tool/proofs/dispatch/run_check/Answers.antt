@@ -3,7 +3,7 @@ use Rattle.std.proofs.Common.{sym, subst}
 use Rattle.frame_tool.specs.Due.{Reply, IsAnswer, Prints, check_reply}
 use Rattle.frame_tool.specs.Check.{IsFinding}
 use Rattle.frame_tool.proofs.OneReply.{no_two_findings}
-use Rattle.frame_tool.proofs.Replies.{due_is_found, misses_due, no_error}
+use Rattle.frame_tool.proofs.Replies.{due_is_found, misses_due, no_error, prints_faults, among_due, check_among}
 use Rattle.frame_tool.proofs.dispatch.run_check.Goals as goal
 
 pub returns-in-Ok-clause-answer : goal.returns-in-Ok-clause-answer
@@ -30,3 +30,10 @@ returns-in-Err-Failed-clause-misses g c =
 pub returns-in-Err-NoMemory-clause-misses : goal.returns-in-Err-NoMemory-clause-misses
 returns-in-Err-NoMemory-clause-misses g c =
     λ files told rose. misses_due IsFinding check_reply _ _ files _ c.check_file.ensures.shelf told rose
+
+pub returns-in-Ok-clause-among : goal.returns-in-Ok-clause-among
+returns-in-Ok-clause-among g c =
+    among_due c.answer_check.result _ _ c.answer_check.ensures.answer (check_among c.in-Ok.finding c.args.file.now)
+
+pub returns-in-Ok-clause-sink : goal.returns-in-Ok-clause-sink
+returns-in-Ok-clause-sink g c = prints_faults c.answer_check.result _ _ _ c.answer_check.ensures.text
