@@ -9,4 +9,3 @@ pub mod Places
 pub mod Reading
 pub mod Slots
 pub mod Writing
-mod Taking

@@ -1,10 +1,8 @@
 //! What the shelf of real files and the sink of standard output do where the system comes short, is
 //! interrupted or fails: no clause speaks of what it gives and takes.
 
-use crate::scripts::Reading::{At, Size, Take};
-use crate::scripts::first_wrong_reading;
 use crate::stand_in::{Runtime, System};
-use crate::{DirShelf, Shelf, ShelfError, Sink, StdSink};
+use crate::{DirShelf, Failed, Shelf, ShelfError, Sink, StdSink};
 use std::test::Fail;
 
 #[test]
@@ -17,14 +15,15 @@ fn a_read_that_fails_is_no_end(rt: HostRuntime) -> Result<(), Fail> {
     let runtime = Runtime { system: &system };
     let mut shelf = DirShelf::new(&runtime, alloc);
     let slot = shelf.source(alloc, "a")?;
-    let calls = [
-        Take(6, Some(b"0123")),
-        Take(6, None),
-        Take(6, Some(b"4567")),
-        Take(6, Some(b"89")),
-        Take(6, Some(b"")),
-    ];
-    assert_eq!(rt; first_wrong_reading(&mut shelf, slot, &calls), None);
+    let mut into = *b"++++++";
+    assert_eq!(rt; shelf.take(slot, &mut into), Ok(4));
+    assert_eq!(rt; into, *b"0123++");
+    assert_eq!(rt; shelf.take(slot, &mut into), Err(Failed));
+    assert_eq!(rt; shelf.take(slot, &mut into), Ok(4));
+    assert_eq!(rt; into, *b"4567++");
+    assert_eq!(rt; shelf.take(slot, &mut into), Ok(2));
+    assert_eq!(rt; into, *b"8967++");
+    assert_eq!(rt; shelf.take(slot, &mut into), Ok(0));
     Ok(())
 }
 
@@ -38,17 +37,18 @@ fn a_read_at_a_place_is_one_read_there(rt: HostRuntime) -> Result<(), Fail> {
     let runtime = Runtime { system: &system };
     let mut shelf = DirShelf::new(&runtime, alloc);
     let slot = shelf.source(alloc, "a")?;
-    let calls = [
-        At(5, 6, Some(b"5678")),
-        At(5, 6, None),
-        At(9, 6, Some(b"9")),
-        At(i64::MAX as u64 - 2, 6, Some(b"")),
-        At(1 << 63, 6, Some(b"")),
-        At(u64::MAX, 6, Some(b"")),
-        Take(6, Some(b"0123")),
-        Size(Some(10)),
-    ];
-    assert_eq!(rt; first_wrong_reading(&mut shelf, slot, &calls), None);
+    let mut into = *b"++++++";
+    assert_eq!(rt; shelf.read_at(slot, 5, &mut into), Ok(4));
+    assert_eq!(rt; into, *b"5678++");
+    assert_eq!(rt; shelf.read_at(slot, 5, &mut into), Err(Failed));
+    assert_eq!(rt; shelf.read_at(slot, 9, &mut into), Ok(1));
+    assert_eq!(rt; into, *b"9678++");
+    assert_eq!(rt; shelf.read_at(slot, i64::MAX as u64 - 2, &mut into), Ok(0));
+    assert_eq!(rt; shelf.read_at(slot, 1 << 63, &mut into), Ok(0));
+    assert_eq!(rt; shelf.read_at(slot, u64::MAX, &mut into), Ok(0));
+    assert_eq!(rt; shelf.take(slot, &mut into), Ok(4));
+    assert_eq!(rt; into, *b"0123++");
+    assert_eq!(rt; shelf.size(slot), Ok(10));
     Ok(())
 }
 
@@ -183,14 +183,16 @@ fn a_file_that_was_given_back_stays_at_its_end(rt: HostRuntime) -> Result<(), Fa
     system.most_open = 1;
     let runtime = Runtime { system: &system };
     let mut shelf = DirShelf::new(&runtime, alloc);
+    let mut into = *b"++";
     let slot = shelf.source(alloc, "a")?;
-    let calls = [Take(2, Some(b"01")), Take(0, Some(b""))];
-    assert_eq!(rt; first_wrong_reading(&mut shelf, slot, &calls), None);
+    assert_eq!(rt; shelf.take(slot, &mut into), Ok(2));
+    assert_eq!(rt; shelf.take(slot, &mut []), Ok(0));
     assert_eq!(rt; shelf.source(alloc, "b"), Err(ShelfError::Failed));
-    let calls = [At(1, 2, Some(b"1")), Take(2, Some(b""))];
-    assert_eq!(rt; first_wrong_reading(&mut shelf, slot, &calls), None);
+    assert_eq!(rt; shelf.read_at(slot, 1, &mut into), Ok(1));
+    assert_eq!(rt; shelf.take(slot, &mut into), Ok(0));
     assert_eq!(rt; shelf.source(alloc, "b"), Ok(1));
-    let calls = [Take(2, Some(b"")), Size(Some(2)), At(1, 2, None)];
-    assert_eq!(rt; first_wrong_reading(&mut shelf, slot, &calls), None);
+    assert_eq!(rt; shelf.take(slot, &mut into), Ok(0));
+    assert_eq!(rt; shelf.size(slot), Ok(2));
+    assert_eq!(rt; shelf.read_at(slot, 1, &mut into), Err(Failed));
     Ok(())
 }
