@@ -5,9 +5,9 @@ use Rattle.std.proofs.lemmas.List.{length-take-le}
 use Rattle.std.proofs.lemmas.Bool.{cases_lt}
 use Rattle.scalar_types.specs.declared.Order.{Order}
 use Rattle.frame_head.specs.Structure.{common_of}
-use Rattle.item_reader.specs.declared.reason.Reason.{Reason}
-use Rattle.item_reader.specs.declared.reason.Reason.TheVariants.{CutRecord, LengthSmall, RecordLimit, FileLimit}
-use Rattle.item_reader.specs.Reason.{number_of}
+use Rattle.file_grammar.specs.declared.reason.Reason.{Reason}
+use Rattle.file_grammar.specs.declared.reason.Reason.TheVariants.{CutRecord, LengthSmall, RecordLimit, FileLimit}
+use Rattle.file_grammar.specs.Reason.{number_of}
 use Rattle.frame_tool.specs.Walk.{record_limit, file_limit, MayStand, Holds, IsFault}
 use Rattle.frame_tool.proofs.Structures.{told-structure, structure-take}
 

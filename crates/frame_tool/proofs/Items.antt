@@ -5,13 +5,13 @@ use Rattle.std.proofs.lemmas.List.{length-take-le, drop-drop, append_assoc, take
 use Rattle.std.proofs.lemmas.List.Sums.{sum_by-cons}
 use Rattle.std.specs.List.{concat}
 use Rattle.scalar_types.specs.declared.Order.{Order}
-use Rattle.item_reader.specs.Structure.{Structure, size_of, end_of, StandsWhole}
-use Rattle.item_reader.specs.Kind.{kind_of}
-use Rattle.item_reader.specs.Record.{weight_of}
-use Rattle.item_reader.specs.Described.{AreElements}
-use Rattle.item_reader.specs.Item.{Item, EntryItem, OtherItem, Before, after}
-use Rattle.item_reader.specs.MayStand.{Stand, Begins}
-use Rattle.item_reader.proofs.Advance.{end_within, place-after_kind}
+use Rattle.file_grammar.specs.Structure.{Structure, size_of, end_of, StandsWhole}
+use Rattle.file_grammar.specs.Kind.{kind_of}
+use Rattle.file_grammar.specs.Record.{weight_of}
+use Rattle.file_grammar.specs.Described.{AreElements}
+use Rattle.file_grammar.specs.Item.{Item, EntryItem, OtherItem, Before, after}
+use Rattle.file_grammar.specs.MayStand.{Stand, Begins}
+use Rattle.file_grammar.proofs.Advance.{end_within, place-after_kind}
 use Rattle.frame_tool.specs.Walk.{MayStand, StandFrom, IsWalked}
 use Rattle.frame_tool.proofs.Faults.{stands_of_fits}
 

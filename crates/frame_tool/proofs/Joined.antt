@@ -9,18 +9,18 @@ use Rattle.std.specs.List.{concat}
 use Rattle.scalar_types.specs.declared.Order.{Order}
 use Rattle.frame_head.specs.Header.{header_of}
 use Rattle.frame_head.specs.Structure.{common_of}
-use Rattle.item_reader.specs.declared.reason.Reason.{Reason}
-use Rattle.item_reader.specs.declared.reason.Reason.TheVariants.{CutHeader, BadHeader, CutRecord, LengthSmall}
-use Rattle.item_reader.specs.declared.reason.Reason.TheVariants.{RecordLimit, FileLimit, NoEnd, Trailing}
-use Rattle.item_reader.specs.declared.fault.Fault.{Fault}
-use Rattle.item_reader.specs.Structure.{record_limit, file_limit, common_at}
-use Rattle.item_reader.specs.Fault.{Here, Spot, place, left, told, here, judged, fault_at, first_of, fault_by, reasons}
-use Rattle.item_reader.specs.Fault.{IsHeaderFault as HasHeaderFault, IsItemFault}
-use Rattle.item_reader.specs.Steps.{length_reason}
-use Rattle.item_reader.proofs.Firsts.{first_of-holds, first_of-passes}
-use Rattle.item_reader.proofs.Headers.{same_order}
-use Rattle.item_reader.proofs.Judging.{first_of-cut}
-use Rattle.item_reader.proofs.Lengths.{Fits, LengthCase, length_case, length-fits, is_uncut}
+use Rattle.file_grammar.specs.declared.reason.Reason.{Reason}
+use Rattle.file_grammar.specs.declared.reason.Reason.TheVariants.{CutHeader, BadHeader, CutRecord, LengthSmall}
+use Rattle.file_grammar.specs.declared.reason.Reason.TheVariants.{RecordLimit, FileLimit, NoEnd, Trailing}
+use Rattle.file_grammar.specs.declared.fault.Fault.{Fault}
+use Rattle.file_grammar.specs.Structure.{record_limit, file_limit, common_at}
+use Rattle.file_grammar.specs.Fault.{Here, Spot, place, left, told, here, judged, fault_at, first_of, fault_by, reasons}
+use Rattle.file_grammar.specs.Fault.{IsHeaderFault as HasHeaderFault, IsItemFault}
+use Rattle.file_grammar.specs.Steps.{length_reason}
+use Rattle.file_grammar.proofs.Firsts.{first_of-holds, first_of-passes}
+use Rattle.file_grammar.proofs.Headers.{same_order}
+use Rattle.file_grammar.proofs.Judging.{first_of-cut}
+use Rattle.file_grammar.proofs.Lengths.{Fits, LengthCase, length_case, length-fits, is_uncut}
 use Rattle.frame_tool.specs.Walk.{Holds, IsFault, IsWalked, IsHeaderFault, IsStructureFault}
 use Rattle.frame_tool.specs.Joined.{IsTooLong, IsOfLength, AcceptedFilesAreSound, BothNameFaultsOfLengths}
 use Rattle.frame_tool.specs.Joined.{WalksNameNoOthers}

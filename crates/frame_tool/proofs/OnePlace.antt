@@ -5,15 +5,15 @@ use Rattle.std.proofs.lemmas.Bool.{eqb-true, eqb-false}
 use Rattle.std.proofs.lemmas.Option.{same_Some, none-some}
 use Rattle.scalar_types.specs.declared.Order.{Order}
 use Rattle.frame_head.specs.Header.{header_of}
-use Rattle.item_reader.specs.declared.reason.Reason.{Reason}
-use Rattle.item_reader.specs.declared.reason.Reason.TheVariants.{CutRecord, LengthSmall, RecordLimit, FileLimit}
-use Rattle.item_reader.specs.declared.reason.Reason.TheVariants.{Trailing}
-use Rattle.item_reader.specs.declared.fault.Fault.{Fault}
-use Rattle.item_reader.specs.Fault.{Here, place, left, told, fault_at, first_of, fault_by, reasons, IsItemFault}
-use Rattle.item_reader.specs.Steps.{length_reason}
-use Rattle.item_reader.proofs.Headers.{same_order}
-use Rattle.item_reader.proofs.Judging.{first_of-cut}
-use Rattle.item_reader.proofs.Lengths.{Fits, LengthCase, length_case, length-fits}
+use Rattle.file_grammar.specs.declared.reason.Reason.{Reason}
+use Rattle.file_grammar.specs.declared.reason.Reason.TheVariants.{CutRecord, LengthSmall, RecordLimit, FileLimit}
+use Rattle.file_grammar.specs.declared.reason.Reason.TheVariants.{Trailing}
+use Rattle.file_grammar.specs.declared.fault.Fault.{Fault}
+use Rattle.file_grammar.specs.Fault.{Here, place, left, told, fault_at, first_of, fault_by, reasons, IsItemFault}
+use Rattle.file_grammar.specs.Steps.{length_reason}
+use Rattle.file_grammar.proofs.Headers.{same_order}
+use Rattle.file_grammar.proofs.Judging.{first_of-cut}
+use Rattle.file_grammar.proofs.Lengths.{Fits, LengthCase, length_case, length-fits}
 use Rattle.frame_tool.specs.declared.verdict.Verdict.TheVariants.{Wrong}
 use Rattle.frame_tool.specs.Walk.{Holds, IsFault, IsStructureFault}
 use Rattle.frame_tool.specs.Joined.{AreOfOneReason, FaultsAtOnePlaceAreOne}

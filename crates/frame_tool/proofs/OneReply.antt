@@ -1,11 +1,11 @@
 -- Words over files have one reply that is due.
 use Rattle.std.proofs.Common.{◌≡◌, ℕ, ◌⊎◌, List, Option, Some, None, inl, inr, refl, sym, ap, ◌∙◌}
 use Rattle.frame_outside.specs.Shelf.{Files}
-use Rattle.item_reader.specs.declared.fault.Fault.{Fault}
-use Rattle.item_reader.specs.Fault.{IsFirstFault}
-use Rattle.item_reader.specs.Laws.{WellFormed}
-use Rattle.item_reader.proofs.OneAnswer.{each_judged, not_both, faults_unique}
-use Rattle.item_reader.proofs.Prefixes.{items_unique}
+use Rattle.file_grammar.specs.declared.fault.Fault.{Fault}
+use Rattle.file_grammar.specs.Fault.{IsFirstFault}
+use Rattle.file_grammar.specs.Laws.{WellFormed}
+use Rattle.file_grammar.proofs.OneAnswer.{each_judged, not_both, faults_unique}
+use Rattle.file_grammar.proofs.Prefixes.{items_unique}
 use Rattle.frame_tool.specs.declared.outcome.Outcome.TheVariants.{Usage, Device}
 use Rattle.frame_tool.specs.declared.judgement.Finding.{Finding}
 use Rattle.frame_tool.specs.declared.judgement.Finding.TheVariants.{Accepted, Refused}

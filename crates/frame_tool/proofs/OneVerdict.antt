@@ -7,8 +7,8 @@ use Rattle.scalar_types.specs.declared.Order.{Order}
 use Rattle.frame_head.specs.declared.header.HeadFault.{HeadFault}
 use Rattle.frame_head.specs.Header.{header_of}
 use Rattle.frame_head.specs.Structure.{common_of}
-use Rattle.item_reader.specs.declared.reason.Reason.{Reason}
-use Rattle.item_reader.specs.declared.reason.Reason.TheVariants.{CutHeader, BadHeader}
+use Rattle.file_grammar.specs.declared.reason.Reason.{Reason}
+use Rattle.file_grammar.specs.declared.reason.Reason.TheVariants.{CutHeader, BadHeader}
 use Rattle.frame_tool.specs.declared.verdict.Verdict.{Verdict}
 use Rattle.frame_tool.specs.declared.verdict.Verdict.TheVariants.{Sound, Wrong}
 use Rattle.frame_tool.specs.Walk.{StandFrom, IsFault, IsWalked, IsHeaderFault, IsStructureFault, IsSound, IsVerdict}

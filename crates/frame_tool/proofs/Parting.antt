@@ -6,7 +6,7 @@ use Rattle.std.proofs.lemmas.List.{length-take-le, nil_from_length}
 use Rattle.std.specs.List.{concat}
 use Rattle.scalar_types.specs.declared.Order.{Order}
 use Rattle.frame_head.specs.Structure.{common_of}
-use Rattle.item_reader.specs.declared.reason.Reason.{Reason}
+use Rattle.file_grammar.specs.declared.reason.Reason.{Reason}
 use Rattle.frame_tool.specs.Walk.{MayStand, StandFrom, IsFault}
 use Rattle.frame_tool.proofs.Structures.{same_structure}
 use Rattle.frame_tool.proofs.Faults.{Fits, judged, structure-unheld, fault_of_least, stands_of_fits}

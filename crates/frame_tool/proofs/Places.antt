@@ -8,27 +8,27 @@ use Rattle.std.proofs.lemmas.Option.{same_Some, none-some}
 use Rattle.std.specs.List.{concat}
 use Rattle.scalar_types.specs.declared.Order.{Order}
 use Rattle.frame_head.specs.Header.{header_of}
-use Rattle.item_reader.specs.declared.reason.Reason.{Reason}
-use Rattle.item_reader.specs.declared.reason.Reason.TheVariants.{CutRecord, LengthSmall, RecordLimit, FrameLimit}
-use Rattle.item_reader.specs.declared.reason.Reason.TheVariants.{NoLayout, UnreadLayout, BodyShort, BodyLong, BadText}
-use Rattle.item_reader.specs.declared.reason.Reason.TheVariants.{StrayElement, ClassRange, Redefined, NameTwice}
-use Rattle.item_reader.specs.declared.reason.Reason.TheVariants.{ElementLimit, InstanceTwice, FrameHTwice, NoFrameH}
-use Rattle.item_reader.specs.declared.reason.Reason.TheVariants.{LooseLink, OpenFrame, BadClosing, AfterTable, NoEnd}
-use Rattle.item_reader.specs.declared.reason.Reason.TheVariants.{FrameCount, ByteCount, Trailing, FileLimit}
-use Rattle.item_reader.specs.declared.reason.Reason.TheVariants.{FramesLimit}
-use Rattle.item_reader.specs.declared.fault.Fault.{Fault}
-use Rattle.item_reader.specs.declared.kind.Kind.{Kind}
-use Rattle.item_reader.specs.declared.kind.Kind.TheVariants.{FrSH, FrSE, FrameH, FrEndOfFrame, FrTOC, FrEndOfFile}
-use Rattle.item_reader.specs.declared.kind.Kind.TheVariants.{Other}
-use Rattle.item_reader.specs.Structure.{Structure, end_of}
-use Rattle.item_reader.specs.Kind.{kind_of, is_end_kind}
-use Rattle.item_reader.specs.Record.{weight_of, first_loose}
-use Rattle.item_reader.specs.Item.{Item, EntryItem, OtherItem, Before, after_kind, after}
-use Rattle.item_reader.specs.MayStand.{Stand}
-use Rattle.item_reader.specs.Fault.{Here, Spot, place, kind, held, body_fault, refusal, here, here_at, judged, fault_at}
-use Rattle.item_reader.specs.Fault.{fault_by, reasons, IsItemFault}
-use Rattle.item_reader.proofs.Advance.{moves}
-use Rattle.item_reader.proofs.Headers.{same_order}
+use Rattle.file_grammar.specs.declared.reason.Reason.{Reason}
+use Rattle.file_grammar.specs.declared.reason.Reason.TheVariants.{CutRecord, LengthSmall, RecordLimit, FrameLimit}
+use Rattle.file_grammar.specs.declared.reason.Reason.TheVariants.{NoLayout, UnreadLayout, BodyShort, BodyLong, BadText}
+use Rattle.file_grammar.specs.declared.reason.Reason.TheVariants.{StrayElement, ClassRange, Redefined, NameTwice}
+use Rattle.file_grammar.specs.declared.reason.Reason.TheVariants.{ElementLimit, InstanceTwice, FrameHTwice, NoFrameH}
+use Rattle.file_grammar.specs.declared.reason.Reason.TheVariants.{LooseLink, OpenFrame, BadClosing, AfterTable, NoEnd}
+use Rattle.file_grammar.specs.declared.reason.Reason.TheVariants.{FrameCount, ByteCount, Trailing, FileLimit}
+use Rattle.file_grammar.specs.declared.reason.Reason.TheVariants.{FramesLimit}
+use Rattle.file_grammar.specs.declared.fault.Fault.{Fault}
+use Rattle.file_grammar.specs.declared.kind.Kind.{Kind}
+use Rattle.file_grammar.specs.declared.kind.Kind.TheVariants.{FrSH, FrSE, FrameH, FrEndOfFrame, FrTOC, FrEndOfFile}
+use Rattle.file_grammar.specs.declared.kind.Kind.TheVariants.{Other}
+use Rattle.file_grammar.specs.Structure.{Structure, end_of}
+use Rattle.file_grammar.specs.Kind.{kind_of, is_end_kind}
+use Rattle.file_grammar.specs.Record.{weight_of, first_loose}
+use Rattle.file_grammar.specs.Item.{Item, EntryItem, OtherItem, Before, after_kind, after}
+use Rattle.file_grammar.specs.MayStand.{Stand}
+use Rattle.file_grammar.specs.Fault.{Here, Spot, place, kind, held, body_fault, refusal, here, here_at, judged, fault_at}
+use Rattle.file_grammar.specs.Fault.{fault_by, reasons, IsItemFault}
+use Rattle.file_grammar.proofs.Advance.{moves}
+use Rattle.file_grammar.proofs.Headers.{same_order}
 use Rattle.frame_tool.specs.declared.verdict.Verdict.TheVariants.{Wrong}
 use Rattle.frame_tool.specs.Walk.{IsFault, IsStructureFault}
 use Rattle.frame_tool.specs.Joined.{NoWalkFaultIsEarlier}

@@ -12,7 +12,7 @@ use Rattle.frame_outside.specs.SlotReader.{Buffered, Draws, Advances, to_come}
 use Rattle.frame_outside.proofs.Slots.{pass-given}
 use Rattle.frame_outside.proofs.Reading.{HasGone}
 use Rattle.frame_tool.proofs.Structures.{StandFrom-push, length-concat-take, rest-concat, take-concat-push}
-use Rattle.item_reader.specs.declared.reason.Reason.{Reason}
+use Rattle.file_grammar.specs.declared.reason.Reason.{Reason}
 use Rattle.frame_tool.specs.declared.verdict.Verdict.{Verdict}
 use Rattle.frame_tool.specs.declared.verdict.Verdict.TheVariants.{Sound, Wrong}
 use Rattle.frame_tool.specs.declared.walk.Found.{Found}

@@ -1,8 +1,8 @@
 -- The check of a file: it is well-formed, or it has a first fault.
 use Rattle.std.specs.Prelude.{◌≡◌, ℕ, List, length}
-use Rattle.item_reader.specs.Item.{Item, Before}
-use Rattle.item_reader.specs.MayStand.{IsWellFormed}
-use Rattle.item_reader.specs.Fault.{IsFirstFault}
+use Rattle.file_grammar.specs.Item.{Item, Before}
+use Rattle.file_grammar.specs.MayStand.{IsWellFormed}
+use Rattle.file_grammar.specs.Fault.{IsFirstFault}
 use Rattle.frame_tool.specs.declared.judgement.Finding.{Finding}
 use Rattle.frame_tool.specs.declared.judgement.Finding.TheVariants.{Accepted, Refused}
 

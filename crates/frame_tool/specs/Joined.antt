@@ -2,11 +2,11 @@
 use Rattle.std.specs.Prelude.{◌≡◌, ℕ, ◌<◌, ◌≤◌, ◌⊎◌, ⊤, List, take, Ok}
 use Rattle.scalar_types.specs.declared.Order.{Order}
 use Rattle.frame_head.specs.Header.{header_of}
-use Rattle.item_reader.specs.declared.reason.Reason.{Reason}
-use Rattle.item_reader.specs.declared.reason.Reason.TheVariants.{CutHeader, BadHeader, CutRecord, LengthSmall}
-use Rattle.item_reader.specs.declared.reason.Reason.TheVariants.{RecordLimit, FileLimit, Trailing}
-use Rattle.item_reader.specs.declared.fault.Fault.{Fault}
-use Rattle.item_reader.specs.Structure.{record_limit, common_at}
+use Rattle.file_grammar.specs.declared.reason.Reason.{Reason}
+use Rattle.file_grammar.specs.declared.reason.Reason.TheVariants.{CutHeader, BadHeader, CutRecord, LengthSmall}
+use Rattle.file_grammar.specs.declared.reason.Reason.TheVariants.{RecordLimit, FileLimit, Trailing}
+use Rattle.file_grammar.specs.declared.fault.Fault.{Fault}
+use Rattle.file_grammar.specs.Structure.{record_limit, common_at}
 use Rattle.frame_tool.specs.declared.verdict.Verdict.TheVariants.{Sound, Wrong}
 use Rattle.frame_tool.specs.declared.judgement.Finding.TheVariants.{Accepted, Refused}
 use Rattle.frame_tool.specs.Walk.{IsVerdict}

@@ -5,7 +5,7 @@ use Rattle.frame_tool.specs.declared.outcome.Outcome.{Outcome}
 use Rattle.frame_tool.specs.declared.outcome.Outcome.TheVariants.{Done, Same, Different, Fault, NoChannel, NoTable}
 use Rattle.frame_tool.specs.declared.outcome.Outcome.TheVariants.{TableLies, Clash, OutputLimit, FramesLimit, Usage}
 use Rattle.frame_tool.specs.declared.outcome.Outcome.TheVariants.{Device, NoMemory}
-use Rattle.item_reader.specs.Reason.{number_of, name_of}
+use Rattle.file_grammar.specs.Reason.{number_of, name_of}
 
 abbrev pub status_of : Outcome → ℕ
 status_of Done = 0

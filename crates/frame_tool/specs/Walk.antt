@@ -4,13 +4,13 @@ use Rattle.std.specs.List.{concat}
 use Rattle.scalar_types.specs.declared.Order.{Order}
 use Rattle.frame_head.specs.Header.{header_of}
 use Rattle.frame_head.specs.Structure.{IsStructure, common_of}
-use Rattle.item_reader.specs.declared.reason.Reason.{Reason}
-use Rattle.item_reader.specs.declared.reason.Reason.TheVariants.{CutHeader, BadHeader, CutRecord, LengthSmall}
-use Rattle.item_reader.specs.declared.reason.Reason.TheVariants.{RecordLimit, FileLimit}
+use Rattle.file_grammar.specs.declared.reason.Reason.{Reason}
+use Rattle.file_grammar.specs.declared.reason.Reason.TheVariants.{CutHeader, BadHeader, CutRecord, LengthSmall}
+use Rattle.file_grammar.specs.declared.reason.Reason.TheVariants.{RecordLimit, FileLimit}
 use Rattle.frame_tool.specs.declared.verdict.Verdict.{Verdict}
 use Rattle.frame_tool.specs.declared.verdict.Verdict.TheVariants.{Sound, Wrong}
-use Rattle.item_reader.specs.Reason.{number_of}
-pub use Rattle.item_reader.specs.Structure.{record_limit, file_limit}
+use Rattle.file_grammar.specs.Reason.{number_of}
+pub use Rattle.file_grammar.specs.Structure.{record_limit, file_limit}
 
 -- a structure that may stand at a place
 pub record MayStand (order : Order) (place : ℕ) (structure : List ℕ) : Type 0 where

@@ -4,12 +4,12 @@ use Rattle.std.specs.List.{concat}
 use Rattle.scalar_types.specs.declared.Order.{Order}
 use Rattle.frame_outside.specs.Shelf.{Outside, Told}
 use Rattle.frame_outside.specs.SlotReader.{Buffered, Draws, Advances}
-use Rattle.item_reader.specs.declared.reason.Reason.{Reason}
+use Rattle.file_grammar.specs.declared.reason.Reason.{Reason}
 use Rattle.frame_tool.specs.declared.verdict.Verdict.{Verdict}
 use Rattle.frame_tool.specs.declared.verdict.Verdict.TheVariants.{Sound, Wrong}
 use Rattle.frame_tool.specs.declared.walk.Found.{Found}
 use Rattle.frame_tool.specs.declared.walk.Found.TheVariants.{End, Structure, Fault}
-use Rattle.item_reader.specs.Reason.{number_of}
+use Rattle.file_grammar.specs.Reason.{number_of}
 use Rattle.frame_tool.specs.Walk.{record_limit, file_limit, MayStand, StandFrom, Holds, IsFault}
 
 -- the bytes of a body that are passed over before its structure is judged

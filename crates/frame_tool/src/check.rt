@@ -5,8 +5,8 @@ ghost use Rattle.frame_outside.specs.Counts.{Rose};
 ghost use Rattle.frame_outside.specs.Shelf.{Told, IsSource, reading_at};
 ghost use Rattle.frame_outside.specs.SlotReader.{Draws};
 ghost use Rattle.item_reader.specs.Reader.{file_of};
-ghost use Rattle.item_reader.specs.Fault.{IsFirstFault};
-ghost use Rattle.item_reader.specs.declared.fault.Fault.{Fault};
+ghost use Rattle.file_grammar.specs.Fault.{IsFirstFault};
+ghost use Rattle.file_grammar.specs.declared.fault.Fault.{Fault};
 ghost use Rattle.frame_tool.specs.Check.{IsFinding};
 ghost use Rattle.frame_tool.specs.WalkSteps.{ReadsOneFile};
 

@@ -1,6 +1,6 @@
 //! What a check of a file finds.
 
-use item_reader::Fault;
+use file_grammar::Fault;
 use scalar_types::Order;
 
 /// What is found of a file.

@@ -4,7 +4,7 @@ ghost use Rattle.std.specs.Prelude.{◌≡◌, IfOk};
 ghost use Rattle.std.specs.String.{string_bytes};
 ghost use Rattle.frame_tool.specs.Outcome.{status_of, line_of};
 
-use item_reader::Reason;
+use file_grammar::Reason;
 use std::alloc::{AllocError, Global};
 
 /// The answer of a run.

@@ -1,6 +1,6 @@
 //! What a walk through a file finds.
 
-use item_reader::Reason;
+use file_grammar::Reason;
 use scalar_types::Order;
 
 /// The verdict of a walk.

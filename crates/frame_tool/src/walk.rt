@@ -10,7 +10,7 @@ ghost use Rattle.frame_tool.specs.WalkSteps.{IsFound, Moves, Judges, body_size_o
 use crate::verdict::Verdict;
 use frame_head::{HEAD_SIZE, HEADER_SIZE, read_common, read_header};
 use frame_outside::{Failed, Shelf, ShelfError, SlotReader};
-use item_reader::{FILE_LIMIT, RECORD_LIMIT, Reason};
+use file_grammar::{FILE_LIMIT, RECORD_LIMIT, Reason};
 use scalar_types::Order;
 use std::alloc::Global;
 

@@ -21,17 +21,17 @@ use Rattle.layout_plan.specs.Body.{number_of, AreFields, IsBody, HasBody}
 use Rattle.layout_plan.specs.Lent.{HasTextAt, HasNumberAt}
 use Rattle.layout_plan.specs.BuiltIn.{structure_fields, element_fields}
 use Rattle.item_reader.specs.declared.structure.Placed.{Placed}
-use Rattle.item_reader.specs.Structure.{Structure, size_of, end_of, file_limit, common_at, left_at, structure_at}
-use Rattle.item_reader.specs.Record.{Reading, reading_by}
-use Rattle.item_reader.specs.Described.{element_at, longest_run, entry_with, IsElement, AreElements}
-use Rattle.item_reader.specs.Steps.{body_of, IsPlaced, DescribesElement, DescribesRun, DescribesEntry}
-use Rattle.item_reader.proofs.Lengths.{Fits}
+use Rattle.file_grammar.specs.Structure.{Structure, size_of, end_of, file_limit, common_at, left_at, structure_at}
+use Rattle.file_grammar.specs.Record.{Reading, reading_by}
+use Rattle.file_grammar.specs.Described.{element_at, longest_run, entry_with, IsElement, AreElements}
+use Rattle.item_reader.specs.Placed.{body_of, IsPlaced, DescribesElement, DescribesRun, DescribesEntry}
+use Rattle.file_grammar.proofs.Lengths.{Fits}
 use Rattle.item_reader.proofs.Placing.{placed-fits}
-use Rattle.item_reader.proofs.Structures.{size-structure_at, stands-whole, stands-fits}
-use Rattle.item_reader.proofs.Bodies.{structure_fields-sound, structure-values, element-values, reading-again}
-use Rattle.item_reader.proofs.Elements.{element-found, element-again}
-use Rattle.item_reader.proofs.Runs.{structures_of, elements_of, run_at-none, longest_run-run, longest_run-again}
-use Rattle.item_reader.proofs.Runs.{place-cons}
+use Rattle.file_grammar.proofs.Structures.{size-structure_at, stands-whole, stands-fits}
+use Rattle.file_grammar.proofs.Bodies.{structure_fields-sound, structure-values, element-values, reading-again}
+use Rattle.file_grammar.proofs.Elements.{element-found, element-again}
+use Rattle.file_grammar.proofs.Runs.{structures_of, elements_of, run_at-none, longest_run-run, longest_run-again}
+use Rattle.file_grammar.proofs.Runs.{place-cons}
 
 -- ---- one element
 

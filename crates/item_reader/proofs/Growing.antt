@@ -17,8 +17,8 @@ use Rattle.dictionary.specs.Same.{same_entries}
 use Rattle.layout_plan.specs.declared.fields.Field.{Field}
 use Rattle.layout_plan.specs.Layout.{layout_of}
 use Rattle.layout_plan.specs.Plans.{plan_of}
-use Rattle.item_reader.specs.Structure.{Structure}
-use Rattle.item_reader.specs.Record.{Reading, reading_by, reading_of, layout_in}
+use Rattle.file_grammar.specs.Structure.{Structure}
+use Rattle.file_grammar.specs.Record.{Reading, reading_by, reading_of, layout_in}
 
 -- ---- the entries
 

@@ -11,18 +11,18 @@ use Rattle.dictionary.specs.Dictionary.{entry_of, step}
 use Rattle.layout_plan.specs.declared.fields.Field.{Field}
 use Rattle.layout_plan.specs.Layout.{layout_of}
 use Rattle.layout_plan.specs.Plans.{plan_of}
-use Rattle.item_reader.specs.declared.reason.Reason.TheVariants.{FileLimit}
-use Rattle.item_reader.specs.declared.kind.Kind.TheVariants.{FrSH}
+use Rattle.file_grammar.specs.declared.reason.Reason.TheVariants.{FileLimit}
+use Rattle.file_grammar.specs.declared.kind.Kind.TheVariants.{FrSH}
 use Rattle.item_reader.specs.declared.reached.Reached.{Reached}
-use Rattle.item_reader.specs.Structure.{file_limit}
-use Rattle.item_reader.specs.Record.{layout_in}
-use Rattle.item_reader.specs.Described.{entry_from}
-use Rattle.item_reader.specs.Fault.{place, told, structure, here, err_of}
+use Rattle.file_grammar.specs.Structure.{file_limit}
+use Rattle.file_grammar.specs.Record.{layout_in}
+use Rattle.file_grammar.specs.Described.{entry_from}
+use Rattle.file_grammar.specs.Fault.{place, told, structure, here, err_of}
 use Rattle.item_reader.specs.Reached.{here_of}
 use Rattle.item_reader.specs.Judged.{kind_here, first_here, entry_reasons, Holds}
-use Rattle.item_reader.proofs.Firsts.{first_of-passes}
-use Rattle.item_reader.proofs.Judging.{first_of-taken}
-use Rattle.item_reader.proofs.Readings.{refusal-of}
+use Rattle.file_grammar.proofs.Firsts.{first_of-passes}
+use Rattle.file_grammar.proofs.Judging.{first_of-taken}
+use Rattle.file_grammar.proofs.Readings.{refusal-of}
 use Rattle.item_reader.proofs.Growing.{entry_of-own, longer, step-cases, plans-read, plans-unread}
 
 -- ---- what the dictionary answers

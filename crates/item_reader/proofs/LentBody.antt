@@ -9,23 +9,23 @@ use Rattle.std.proofs.lemmas.Option.{same_Some}
 use Rattle.dictionary.specs.declared.entries.Entry.{Entry}
 use Rattle.layout_plan.specs.declared.fields.Field.{Field}
 use Rattle.layout_plan.specs.Plans.{plan_of}
-use Rattle.item_reader.specs.declared.kind.Kind.{Kind}
-use Rattle.item_reader.specs.declared.kind.Kind.TheVariants.{FrSH, FrSE, FrameH, FrEndOfFrame, FrTOC, FrEndOfFile}
-use Rattle.item_reader.specs.declared.kind.Kind.TheVariants.{Other}
+use Rattle.file_grammar.specs.declared.kind.Kind.{Kind}
+use Rattle.file_grammar.specs.declared.kind.Kind.TheVariants.{FrSH, FrSE, FrameH, FrEndOfFrame, FrTOC, FrEndOfFile}
+use Rattle.file_grammar.specs.declared.kind.Kind.TheVariants.{Other}
 use Rattle.item_reader.specs.declared.item.Item.{Item as Given}
 use Rattle.item_reader.specs.declared.item.Item.TheVariants as given
-use Rattle.item_reader.specs.Structure.{Structure, end_of}
-use Rattle.item_reader.specs.Kind.{kind_of, is_table_kind}
-use Rattle.item_reader.specs.Record.{weight_of, layout_in}
-use Rattle.item_reader.specs.Described.{longest_run, entry_from}
-use Rattle.item_reader.specs.Item.{Item, EntryItem, OtherItem, Before, after_kind, after}
-use Rattle.item_reader.specs.Fault.{Here, place, structure, held, kind}
-use Rattle.item_reader.specs.Steps.{item_by, item_here}
+use Rattle.file_grammar.specs.Structure.{Structure, end_of}
+use Rattle.file_grammar.specs.Kind.{kind_of, is_table_kind}
+use Rattle.file_grammar.specs.Record.{weight_of, layout_in}
+use Rattle.file_grammar.specs.Described.{longest_run, entry_from}
+use Rattle.file_grammar.specs.Item.{Item, EntryItem, OtherItem, Before, after_kind, after}
+use Rattle.file_grammar.specs.Fault.{Here, place, structure, held, kind}
+use Rattle.file_grammar.specs.Steps.{item_by, item_here}
 use Rattle.item_reader.specs.Given.{TellsKind, Tells, body_after}
 use Rattle.item_reader.specs.declared.reached.Reached.{Reached}
 use Rattle.item_reader.specs.Reached.{before_of, here_of, Takes}
 use Rattle.item_reader.specs.Reader.{IsFileEnd, TakesOn, body_range}
-use Rattle.item_reader.proofs.Advance.{place-after_kind}
+use Rattle.file_grammar.proofs.Advance.{place-after_kind}
 
 -- an item begins with the structure at its place
 abbrev StartsWith : Structure → Item → Type 0

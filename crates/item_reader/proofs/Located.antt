@@ -4,14 +4,15 @@ use Rattle.std.specs.Prelude.{◌==◌}
 use Rattle.std.proofs.lemmas.Bool.{ne_eqb}
 use Rattle.item_reader.specs.declared.reached.Reached.{Reached}
 use Rattle.item_reader.specs.declared.structure.Placed.{Placed}
-use Rattle.item_reader.specs.Structure.{Structure, size_of, end_of, record_limit}
-use Rattle.item_reader.specs.Fault.{Here, place, left, told, class, structure, reasons, first_of, fault_by, fault_here}
-use Rattle.item_reader.specs.Steps.{length_reason, reasons_of, body_of}
+use Rattle.file_grammar.specs.Structure.{Structure, size_of, end_of, record_limit}
+use Rattle.file_grammar.specs.Fault.{Here, place, left, told, class, structure, reasons, first_of, fault_by, fault_here}
+use Rattle.file_grammar.specs.Steps.{length_reason, reasons_of}
+use Rattle.item_reader.specs.Placed.{body_of}
 use Rattle.item_reader.specs.Reached.{here_of}
 use Rattle.item_reader.specs.Judged.{IsHere, kind_here}
-use Rattle.item_reader.proofs.Lengths.{Fits, fits-length}
-use Rattle.item_reader.proofs.Structures.{size-structure_at}
-use Rattle.item_reader.proofs.Judging.{first_of-kind}
+use Rattle.file_grammar.proofs.Lengths.{Fits, fits-length}
+use Rattle.file_grammar.proofs.Structures.{size-structure_at}
+use Rattle.file_grammar.proofs.Judging.{first_of-kind}
 
 pub told-here : (r : Reached) (p : Placed) → IsHere r p → told (here_of r) ≡ p.length
 told-here r p here = sym here.length_is

@@ -12,11 +12,11 @@ use Rattle.layout_plan.specs.Appends.{Appends}
 use Rattle.layout_plan.specs.Body.{IsBody}
 use Rattle.layout_plan.specs.Links.{field_links, AreLinks}
 use Rattle.item_reader.specs.declared.structure.Placed.{Placed}
-use Rattle.item_reader.specs.Structure.{Structure, structure_at}
-use Rattle.item_reader.specs.Steps.{IsPlaced, body_of}
-use Rattle.item_reader.specs.Record.{Reading, layout_in, reading_by, reading_of, values_of}
-use Rattle.item_reader.proofs.Bodies.{reading-found}
-use Rattle.item_reader.proofs.Weights.{layout-sound}
+use Rattle.file_grammar.specs.Structure.{Structure, structure_at}
+use Rattle.item_reader.specs.Placed.{IsPlaced, body_of}
+use Rattle.file_grammar.specs.Record.{Reading, layout_in, reading_by, reading_of, values_of}
+use Rattle.file_grammar.proofs.Bodies.{reading-found}
+use Rattle.file_grammar.proofs.Weights.{layout-sound}
 
 -- the body of a structure that reads spells its values
 kept-body : (order : Order) (held : List Entry) (s : Structure) (fields : List Field)

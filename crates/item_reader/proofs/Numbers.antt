@@ -26,16 +26,16 @@ use Rattle.layout_plan.specs.Layout.{field_of, fields_after, layout_of}
 use Rattle.layout_plan.specs.Body.{number_of, HasBody}
 use Rattle.layout_plan.specs.Plans.{plan_of}
 use Rattle.layout_plan.specs.Lent.{IsNumberField, HasNumberAt}
-use Rattle.item_reader.specs.Record.{Reading, layout_in, reading_by, values_of}
-use Rattle.item_reader.specs.Closing.{is_single, is_any, is_count, is_size, has_named, closes, field_named}
-use Rattle.item_reader.specs.Fault.{Here, held, class, structure, elements, number}
+use Rattle.file_grammar.specs.Record.{Reading, layout_in, reading_by, values_of}
+use Rattle.file_grammar.specs.Closing.{is_single, is_any, is_count, is_size, has_named, closes, field_named}
+use Rattle.file_grammar.specs.Fault.{Here, held, class, structure, elements, number}
 use Rattle.item_reader.specs.declared.reached.Reached.{Reached}
 use Rattle.item_reader.specs.declared.structure.Placed.{Placed}
 use Rattle.item_reader.specs.Reached.{IsSound, here_of}
 use Rattle.item_reader.specs.Judged.{IsHere, ReadsHere}
 use Rattle.item_reader.proofs.Located.{class-here}
-use Rattle.item_reader.proofs.Bodies.{reading-found}
-use Rattle.item_reader.proofs.Weights.{layout-sound}
+use Rattle.file_grammar.proofs.Bodies.{reading-found}
+use Rattle.file_grammar.proofs.Weights.{layout-sound}
 
 -- ---- a single number's field
 

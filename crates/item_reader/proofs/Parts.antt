@@ -14,34 +14,34 @@ use Rattle.layout_plan.specs.Layout.{AreSound, layout_of}
 use Rattle.layout_plan.specs.Reading.{fault_of}
 use Rattle.layout_plan.specs.BuiltIn.{structure_fields, element_fields}
 use Rattle.layout_plan.proofs.LengthLemmas.{body-length}
-use Rattle.item_reader.specs.declared.reason.Reason.{Reason}
-use Rattle.item_reader.specs.declared.reason.Reason.TheVariants.{RecordLimit, FrameLimit, NoLayout, UnreadLayout}
-use Rattle.item_reader.specs.declared.reason.Reason.TheVariants.{BodyShort, BodyLong, BadText, StrayElement}
-use Rattle.item_reader.specs.declared.reason.Reason.TheVariants.{InstanceTwice, FrameHTwice, FrameCount, ByteCount}
-use Rattle.item_reader.specs.declared.reason.Reason.TheVariants.{FileLimit}
-use Rattle.item_reader.specs.declared.fault.Fault.{Fault}
-use Rattle.item_reader.specs.declared.kind.Kind.{Kind}
-use Rattle.item_reader.specs.declared.kind.Kind.TheVariants.{FrSH, FrSE, FrameH, FrEndOfFrame, FrTOC, FrEndOfFile}
-use Rattle.item_reader.specs.declared.kind.Kind.TheVariants.{Other}
-use Rattle.item_reader.specs.Structure.{Structure, end_of, record_limit, file_limit}
-use Rattle.item_reader.specs.Closing.{field_named}
-use Rattle.item_reader.specs.Kind.{is_frame_kind, is_target_kind, is_table_kind, is_header_kind, is_file_end_kind}
-use Rattle.item_reader.specs.Record.{Reading, reading_by, reading_of, layout_in, is_target, has_target}
-use Rattle.item_reader.specs.Fault.{Here, Spot, place, left, told, held, class, kind, structure, fields, fields_by}
-use Rattle.item_reader.specs.Fault.{load, body_fault, elements, number, here, here_at, is_twin, has_twin, has_header}
-use Rattle.item_reader.specs.Fault.{judged, fault_at, first_of}
-use Rattle.item_reader.specs.Steps.{length_reason, reasons_of}
+use Rattle.file_grammar.specs.declared.reason.Reason.{Reason}
+use Rattle.file_grammar.specs.declared.reason.Reason.TheVariants.{RecordLimit, FrameLimit, NoLayout, UnreadLayout}
+use Rattle.file_grammar.specs.declared.reason.Reason.TheVariants.{BodyShort, BodyLong, BadText, StrayElement}
+use Rattle.file_grammar.specs.declared.reason.Reason.TheVariants.{InstanceTwice, FrameHTwice, FrameCount, ByteCount}
+use Rattle.file_grammar.specs.declared.reason.Reason.TheVariants.{FileLimit}
+use Rattle.file_grammar.specs.declared.fault.Fault.{Fault}
+use Rattle.file_grammar.specs.declared.kind.Kind.{Kind}
+use Rattle.file_grammar.specs.declared.kind.Kind.TheVariants.{FrSH, FrSE, FrameH, FrEndOfFrame, FrTOC, FrEndOfFile}
+use Rattle.file_grammar.specs.declared.kind.Kind.TheVariants.{Other}
+use Rattle.file_grammar.specs.Structure.{Structure, end_of, record_limit, file_limit}
+use Rattle.file_grammar.specs.Closing.{field_named}
+use Rattle.file_grammar.specs.Kind.{is_frame_kind, is_target_kind, is_table_kind, is_header_kind, is_file_end_kind}
+use Rattle.file_grammar.specs.Record.{Reading, reading_by, reading_of, layout_in, is_target, has_target}
+use Rattle.file_grammar.specs.Fault.{Here, Spot, place, left, told, held, class, kind, structure, fields, fields_by}
+use Rattle.file_grammar.specs.Fault.{load, body_fault, elements, number, here, here_at, is_twin, has_twin, has_header}
+use Rattle.file_grammar.specs.Fault.{judged, fault_at, first_of}
+use Rattle.file_grammar.specs.Steps.{length_reason, reasons_of}
 use Rattle.item_reader.specs.Judged.{ReadsHere, is_read_kind, body_reasons, reading_reasons, weighing_reasons}
 use Rattle.item_reader.specs.Judged.{place_reasons, record_reasons, frame_end_reasons, table_reasons, count_reasons}
 use Rattle.item_reader.specs.Judged.{closing_reasons, entry_reasons, IsReadBy}
-use Rattle.item_reader.proofs.Firsts.{first_of-holds, first_of-passes, first_of-others}
-use Rattle.item_reader.proofs.Lengths.{Fits}
-use Rattle.item_reader.proofs.Tests.{test-InstanceTwice, test-FrameCount, test-ByteCount}
-use Rattle.item_reader.proofs.Applying.{applies, unapplied}
-use Rattle.item_reader.proofs.Weights.{layout-sound}
-use Rattle.item_reader.proofs.Bodies.{reading-found, reading-again, no_fault-reading, structure_fields-sound}
-use Rattle.item_reader.proofs.Bodies.{element_fields-sound}
-use Rattle.item_reader.proofs.Judging.{first_of-good_body, first_of-unread_weight}
+use Rattle.file_grammar.proofs.Firsts.{first_of-holds, first_of-passes, first_of-others}
+use Rattle.file_grammar.proofs.Lengths.{Fits}
+use Rattle.file_grammar.proofs.Tests.{test-InstanceTwice, test-FrameCount, test-ByteCount}
+use Rattle.file_grammar.proofs.Applying.{applies, unapplied}
+use Rattle.file_grammar.proofs.Weights.{layout-sound}
+use Rattle.file_grammar.proofs.Bodies.{reading-found, reading-again, no_fault-reading, structure_fields-sound}
+use Rattle.file_grammar.proofs.Bodies.{element_fields-sound}
+use Rattle.file_grammar.proofs.Judging.{first_of-good_body, first_of-unread_weight}
 
 -- ---- parts one after another
 

@@ -4,9 +4,9 @@ use Rattle.scalar_types.specs.declared.Order.{Order}
 use Rattle.frame_head.specs.Structure.{common_of}
 use Rattle.frame_head.proofs.FirstBytes.{common_of-take}
 use Rattle.item_reader.specs.declared.structure.Placed.{Placed}
-use Rattle.item_reader.specs.Structure.{common_at, left_at}
-use Rattle.item_reader.specs.Steps.{IsPlaced}
-use Rattle.item_reader.proofs.Lengths.{Fits}
+use Rattle.file_grammar.specs.Structure.{common_at, left_at}
+use Rattle.item_reader.specs.Placed.{IsPlaced}
+use Rattle.file_grammar.proofs.Lengths.{Fits}
 
 -- the 14 bytes at a place say what all the bytes from there say
 pub common_at-head : (order : Order) (file : List ℕ) (at end : ℕ) → end ≡ at + 14

@@ -12,20 +12,20 @@ use Rattle.frame_outside.specs.Shelf.{Outside, Reading, Told, IsSource, reading_
 use Rattle.frame_outside.specs.SlotReader.{Draws}
 use Rattle.frame_outside.proofs.Slots.{IsSource-pass, reading_at-pass}
 use Rattle.frame_head.specs.Header.{header_of}
-use Rattle.item_reader.specs.declared.reason.Reason.TheVariants.{Trailing}
-use Rattle.item_reader.specs.declared.fault.Fault.{Fault}
+use Rattle.file_grammar.specs.declared.reason.Reason.TheVariants.{Trailing}
+use Rattle.file_grammar.specs.declared.fault.Fault.{Fault}
 use Rattle.item_reader.specs.declared.item.Item.{Item as Given}
 use Rattle.item_reader.specs.declared.item.ReadError.{ReadError}
 use Rattle.item_reader.specs.declared.item.ReadError.TheVariants as read
 use Rattle.item_reader.specs.declared.reached.Reached.{Reached}
-use Rattle.item_reader.specs.Item.{Item, Before, nothing_yet, after}
-use Rattle.item_reader.specs.MayStand.{MayStand, Stand, Begins}
-use Rattle.item_reader.specs.Fault.{Here, place, fault_at, fault_by, fault_here, IsItemFault, IsFirstFault}
-use Rattle.item_reader.specs.Steps.{item_here}
+use Rattle.file_grammar.specs.Item.{Item, Before, nothing_yet, after}
+use Rattle.file_grammar.specs.MayStand.{MayStand, Stand, Begins}
+use Rattle.file_grammar.specs.Fault.{Here, place, fault_at, fault_by, fault_here, IsItemFault, IsFirstFault}
+use Rattle.file_grammar.specs.Steps.{item_here}
 use Rattle.item_reader.specs.Reached.{IsSound, before_of, here_of}
 use Rattle.item_reader.specs.Reader.{Reader, file_of, Keeps, HasRead, Reads, Goes, HasEnded, IsFileEnd, Faults, TakesOn}
-use Rattle.item_reader.proofs.Standing.{may-stand}
-use Rattle.item_reader.proofs.Advance.{Moves, moves}
+use Rattle.file_grammar.proofs.Standing.{may-stand}
+use Rattle.file_grammar.proofs.Advance.{Moves, moves}
 use Rattle.item_reader.proofs.LentBody.{end-closes, closes-end}
 
 -- the item at a place without fault may stand there

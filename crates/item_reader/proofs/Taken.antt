@@ -12,25 +12,26 @@ use Rattle.std.proofs.lemmas.Option.{none-some}
 use Rattle.scalar_types.specs.declared.Order.{Order}
 use Rattle.dictionary.specs.declared.entries.Element.{Element}
 use Rattle.dictionary.specs.declared.entries.Entry.{Entry}
-use Rattle.item_reader.specs.declared.reason.Reason.TheVariants.{NoFrameH, LooseLink, AfterTable, FileLimit}
-use Rattle.item_reader.specs.declared.reason.Reason.TheVariants.{FramesLimit}
+use Rattle.file_grammar.specs.declared.reason.Reason.TheVariants.{NoFrameH, LooseLink, AfterTable, FileLimit}
+use Rattle.file_grammar.specs.declared.reason.Reason.TheVariants.{FramesLimit}
 use Rattle.item_reader.specs.declared.item.Item.{Item as Given}
 use Rattle.item_reader.specs.declared.item.Item.TheVariants as given
 use Rattle.item_reader.specs.declared.item.ReadError.{ReadError}
 use Rattle.item_reader.specs.declared.item.ReadError.TheVariants as errors
-use Rattle.item_reader.specs.declared.kind.Kind.{Kind}
-use Rattle.item_reader.specs.declared.kind.Kind.TheVariants.{FrSH, FrSE, FrameH, FrEndOfFrame, FrTOC, FrEndOfFile}
-use Rattle.item_reader.specs.declared.kind.Kind.TheVariants.{Other}
+use Rattle.file_grammar.specs.declared.kind.Kind.{Kind}
+use Rattle.file_grammar.specs.declared.kind.Kind.TheVariants.{FrSH, FrSE, FrameH, FrEndOfFrame, FrTOC, FrEndOfFile}
+use Rattle.file_grammar.specs.declared.kind.Kind.TheVariants.{Other}
 use Rattle.item_reader.specs.declared.reached.Reached.{Reached}
 use Rattle.item_reader.specs.declared.structure.Placed.{Placed}
-use Rattle.item_reader.specs.Structure.{Structure, size_of, end_of, structure_at}
-use Rattle.item_reader.specs.Kind.{is_target_kind, is_end_kind}
-use Rattle.item_reader.specs.Record.{reading_of}
-use Rattle.item_reader.specs.Described.{longest_run, entry_from}
-use Rattle.item_reader.specs.Item.{Item, EntryItem, OtherItem, Before, dictionary_by, dictionary_after, after_kind}
-use Rattle.item_reader.specs.MayStand.{frames_limit}
-use Rattle.item_reader.specs.Fault.{Here, place, class, kind, structure, weight, number, here, first_of}
-use Rattle.item_reader.specs.Steps.{length_reason, item_by, DescribesEntry}
+use Rattle.file_grammar.specs.Structure.{Structure, size_of, end_of, structure_at}
+use Rattle.file_grammar.specs.Kind.{is_target_kind, is_end_kind}
+use Rattle.file_grammar.specs.Record.{reading_of}
+use Rattle.file_grammar.specs.Described.{longest_run, entry_from}
+use Rattle.file_grammar.specs.Item.{Item, EntryItem, OtherItem, Before, dictionary_by, dictionary_after, after_kind}
+use Rattle.file_grammar.specs.MayStand.{frames_limit}
+use Rattle.file_grammar.specs.Fault.{Here, place, class, kind, structure, weight, number, here, first_of}
+use Rattle.file_grammar.specs.Steps.{length_reason, item_by}
+use Rattle.item_reader.specs.Placed.{DescribesEntry}
 use Rattle.item_reader.specs.Given.{TellsKind}
 use Rattle.item_reader.specs.Reached.{frame_of, before_of, here_of, IsKept, IsSound, Takes}
 use Rattle.item_reader.specs.Judged.{IsHere, kind_here, first_here, body_reasons, weighing_reasons, record_reasons}
@@ -40,8 +41,8 @@ use Rattle.item_reader.proofs.Located.{end-here, size-here, class-here, instance
 use Rattle.item_reader.proofs.Located.{fault-kind}
 use Rattle.item_reader.proofs.Parts.{first_of-back, record-parts, frame_end-parts, file_end-parts, table-parts}
 use Rattle.item_reader.proofs.Parts.{entry-parts}
-use Rattle.item_reader.proofs.Firsts.{first-none}
-use Rattle.item_reader.proofs.Tests.{test-FramesLimit}
+use Rattle.file_grammar.proofs.Firsts.{first-none}
+use Rattle.file_grammar.proofs.Tests.{test-FramesLimit}
 use Rattle.item_reader.proofs.Growing.{step-cases, reading-still}
 
 -- ---- what is kept

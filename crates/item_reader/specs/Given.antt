@@ -2,13 +2,13 @@
 use Rattle.std.specs.Prelude.{◌≡◌, ◌≢◌, ◌↔◌, ℕ, IsTrue, List, [], length, if◌then◌else◌, ◌&&◌, is_none, codes}
 use Rattle.item_reader.specs.declared.item.Item.{Item as Given}
 use Rattle.item_reader.specs.declared.item.Item.TheVariants as given
-use Rattle.item_reader.specs.declared.kind.Kind.{Kind}
-use Rattle.item_reader.specs.declared.kind.Kind.TheVariants.{FrameH, FrEndOfFrame, FrTOC, FrEndOfFile, Other}
-use Rattle.item_reader.specs.Structure.{Structure, size_of}
-use Rattle.item_reader.specs.Kind.{is_table_kind}
-use Rattle.item_reader.specs.Record.{layout_in}
-use Rattle.item_reader.specs.Item.{Item, EntryItem, OtherItem, dictionary_after}
-use Rattle.item_reader.specs.Fault.{Here, held, kind, number}
+use Rattle.file_grammar.specs.declared.kind.Kind.{Kind}
+use Rattle.file_grammar.specs.declared.kind.Kind.TheVariants.{FrameH, FrEndOfFrame, FrTOC, FrEndOfFile, Other}
+use Rattle.file_grammar.specs.Structure.{Structure, size_of}
+use Rattle.file_grammar.specs.Kind.{is_table_kind}
+use Rattle.file_grammar.specs.Record.{layout_in}
+use Rattle.file_grammar.specs.Item.{Item, EntryItem, OtherItem, dictionary_after}
+use Rattle.file_grammar.specs.Fault.{Here, held, kind, number}
 
 -- what is given of a structure of a kind; a record has its number in the frame, from 0
 abbrev pub TellsKind : Kind → Here → Structure → Given → Type 0

@@ -7,24 +7,24 @@ use Rattle.dictionary.specs.Dictionary.{step}
 use Rattle.layout_plan.specs.declared.fields.Field.{Field}
 use Rattle.layout_plan.specs.Body.{values_length}
 use Rattle.layout_plan.specs.Plans.{plan_of}
-use Rattle.item_reader.specs.declared.reason.Reason.{Reason}
-use Rattle.item_reader.specs.declared.reason.Reason.TheVariants.{RecordLimit, FrameLimit, NoLayout, UnreadLayout}
-use Rattle.item_reader.specs.declared.reason.Reason.TheVariants.{BodyShort, BodyLong, BadText, ClassRange, Redefined}
-use Rattle.item_reader.specs.declared.reason.Reason.TheVariants.{NameTwice, ElementLimit, InstanceTwice, FrameHTwice}
-use Rattle.item_reader.specs.declared.reason.Reason.TheVariants.{NoFrameH, LooseLink, OpenFrame, BadClosing, AfterTable}
-use Rattle.item_reader.specs.declared.reason.Reason.TheVariants.{FrameCount, ByteCount, FileLimit, FramesLimit}
-use Rattle.item_reader.specs.declared.fault.Fault.{Fault}
-use Rattle.item_reader.specs.declared.kind.Kind.{Kind}
+use Rattle.file_grammar.specs.declared.reason.Reason.{Reason}
+use Rattle.file_grammar.specs.declared.reason.Reason.TheVariants.{RecordLimit, FrameLimit, NoLayout, UnreadLayout}
+use Rattle.file_grammar.specs.declared.reason.Reason.TheVariants.{BodyShort, BodyLong, BadText, ClassRange, Redefined}
+use Rattle.file_grammar.specs.declared.reason.Reason.TheVariants.{NameTwice, ElementLimit, InstanceTwice, FrameHTwice}
+use Rattle.file_grammar.specs.declared.reason.Reason.TheVariants.{NoFrameH, LooseLink, OpenFrame, BadClosing, AfterTable}
+use Rattle.file_grammar.specs.declared.reason.Reason.TheVariants.{FrameCount, ByteCount, FileLimit, FramesLimit}
+use Rattle.file_grammar.specs.declared.fault.Fault.{Fault}
+use Rattle.file_grammar.specs.declared.kind.Kind.{Kind}
 use Rattle.item_reader.specs.declared.item.Item.{Item as Given}
 use Rattle.item_reader.specs.declared.item.ReadError.{ReadError}
 use Rattle.item_reader.specs.declared.item.ReadError.TheVariants as error
 use Rattle.item_reader.specs.declared.reached.Reached.{Reached}
 use Rattle.item_reader.specs.declared.structure.Placed.{Placed}
-use Rattle.item_reader.specs.Structure.{record_limit}
-use Rattle.item_reader.specs.Kind.{is_frame_kind, is_file_end_kind}
-use Rattle.item_reader.specs.Record.{Reading, reading_by, reading_of, layout_in}
-use Rattle.item_reader.specs.Fault.{Here, told, held, kind, structure, weight, load, first_of, fault_here}
-use Rattle.item_reader.specs.Steps.{IsPlaced}
+use Rattle.file_grammar.specs.Structure.{record_limit}
+use Rattle.file_grammar.specs.Kind.{is_frame_kind, is_file_end_kind}
+use Rattle.file_grammar.specs.Record.{Reading, reading_by, reading_of, layout_in}
+use Rattle.file_grammar.specs.Fault.{Here, told, held, kind, structure, weight, load, first_of, fault_here}
+use Rattle.item_reader.specs.Placed.{IsPlaced}
 use Rattle.item_reader.specs.Reached.{here_of, Takes}
 
 -- the structure is the one at the place reached

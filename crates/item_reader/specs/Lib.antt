@@ -1,14 +1,4 @@
-pub mod Reason
-pub mod Structure
-pub mod Kind
-pub mod Record
-pub mod Described
-pub mod Item
-pub mod Closing
-pub mod MayStand
-pub mod Fault
-pub mod Laws
-pub mod Steps
+pub mod Placed
 pub mod Reached
 pub mod Given
 pub mod Judged

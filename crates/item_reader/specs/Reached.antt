@@ -3,12 +3,12 @@ use Rattle.std.specs.Prelude.{◌≡◌, ℕ, ◌≤◌, List, map, length, All,
 use Rattle.layout_plan.specs.Plans.{plan_of}
 use Rattle.layout_plan.specs.BuiltIn.{structure_fields, element_fields}
 use Rattle.item_reader.specs.declared.reached.Reached.{Reached}
-use Rattle.item_reader.specs.Structure.{Structure, structure_at, record_limit}
-use Rattle.item_reader.specs.Record.{layout_in, reading_of}
-use Rattle.item_reader.specs.Item.{Item, Before, after as after_item}
-use Rattle.item_reader.specs.MayStand.{frames_limit}
-use Rattle.item_reader.specs.Fault.{Here, fault_here}
-use Rattle.item_reader.specs.Steps.{length_reason, item_here}
+use Rattle.file_grammar.specs.Structure.{Structure, structure_at, record_limit}
+use Rattle.file_grammar.specs.Record.{layout_in, reading_of}
+use Rattle.file_grammar.specs.Item.{Item, Before, after as after_item}
+use Rattle.file_grammar.specs.MayStand.{frames_limit}
+use Rattle.file_grammar.specs.Fault.{Here, fault_here}
+use Rattle.file_grammar.specs.Steps.{length_reason, item_here}
 use Rattle.item_reader.specs.declared.item.Item.{Item as Given}
 use Rattle.item_reader.specs.Given.{Tells}
 

@@ -5,15 +5,15 @@ use Rattle.scalar_types.specs.declared.Order.{Order}
 use Rattle.frame_outside.specs.Shelf.{Outside, Told, IsSource, reading_at}
 use Rattle.layout_plan.specs.declared.fields.Field.{Field}
 use Rattle.layout_plan.specs.Plans.{plan_of}
-use Rattle.item_reader.specs.declared.fault.Fault.{Fault}
+use Rattle.file_grammar.specs.declared.fault.Fault.{Fault}
 use Rattle.item_reader.specs.declared.item.Item.{Item as Given}
 use Rattle.item_reader.specs.declared.item.Item.TheVariants as given
 use Rattle.item_reader.specs.declared.item.ReadError.{ReadError}
-use Rattle.item_reader.specs.Item.{Item, Before, after}
-use Rattle.item_reader.specs.MayStand.{MayStand, Begins, IsWellFormed}
-use Rattle.item_reader.specs.Fault.{Here, fault_here}
+use Rattle.file_grammar.specs.Item.{Item, Before, after}
+use Rattle.file_grammar.specs.MayStand.{MayStand, Begins, IsWellFormed}
+use Rattle.file_grammar.specs.Fault.{Here, fault_here}
 use Rattle.item_reader.specs.declared.reached.Reached.{Reached}
-use Rattle.item_reader.specs.Steps.{item_here}
+use Rattle.file_grammar.specs.Steps.{item_here}
 use Rattle.item_reader.specs.Reached.{IsSound, here_of, Takes}
 use Rattle.item_reader.specs.Given.{Tells, body_after}
 

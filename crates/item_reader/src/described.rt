@@ -2,12 +2,13 @@
 
 ghost use Rattle.std.specs.Prelude.{◌≡◌, ◌≤◌, IfOk, IfSome, length, is_some};
 ghost use Rattle.layout_plan.specs.BuiltIn.{structure_fields, element_fields};
-ghost use Rattle.item_reader.specs.Described.{element_at};
-ghost use Rattle.item_reader.specs.Steps.{IsPlaced, DescribesElement, DescribesRun, DescribesEntry, ReadsHead};
-ghost use Rattle.item_reader.specs.Steps.{ReadsElement};
+ghost use Rattle.file_grammar.specs.Described.{element_at};
+ghost use Rattle.item_reader.specs.Placed.{IsPlaced, DescribesElement, DescribesRun, DescribesEntry, ReadsHead};
+ghost use Rattle.item_reader.specs.Placed.{ReadsElement};
 
-use crate::structure::{FILE_LIMIT, Placed, length_reason, placed_at};
+use crate::structure::{Placed, length_reason, placed_at};
 use dictionary::{Element, ElementList, Entry};
+use file_grammar::FILE_LIMIT;
 use layout_plan::{Plan, element_plan, measure, num_at, structure_plan, text_at};
 use scalar_types::Order;
 use std::alloc::{AllocError, Global};

@@ -2,14 +2,14 @@
 
 ghost use Rattle.std.specs.Prelude.{◌≡◌, IfOk};
 ghost use Rattle.layout_plan.specs.Links.{field_links};
-ghost use Rattle.item_reader.specs.Structure.{structure_at};
-ghost use Rattle.item_reader.specs.Record.{has_target, is_loose, values_of, loose_field, first_loose};
-ghost use Rattle.item_reader.specs.Fault.{has_header};
+ghost use Rattle.file_grammar.specs.Structure.{structure_at};
+ghost use Rattle.file_grammar.specs.Record.{has_target, is_loose, values_of, loose_field, first_loose};
+ghost use Rattle.file_grammar.specs.Fault.{has_header};
 ghost use Rattle.item_reader.specs.Reached.{IsSound, IsKept, frame_of};
 
-use crate::kind::{Kind, kind_of};
 use crate::reached::Reached;
 use crate::structure::placed_at;
+use file_grammar::{Kind, kind_of};
 use layout_plan::{FieldLink, push_links};
 use std::alloc::{AllocError, Global};
 use type_text::Link;

@@ -1,6 +1,6 @@
 //! What a reader gives: items one after another, or why there is none.
 
-use crate::fault::Fault;
+use file_grammar::Fault;
 use frame_outside::ShelfError;
 use std::alloc::AllocError;
 use thiserror::Error;

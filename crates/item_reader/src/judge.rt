@@ -4,32 +4,27 @@ ghost use Rattle.std.specs.Prelude.{◌≡◌, ◌+◌, ◌^◌, ◌<◌, ◌==�
 ghost use Rattle.std.specs.Prelude.{IfOk, IfErr};
 ghost use Rattle.std.specs.Option.{option_map_or};
 ghost use Rattle.dictionary.specs.Dictionary.{entry_of, IsDictionary};
-ghost use Rattle.item_reader.specs.declared.kind.Kind.TheVariants as variant;
-ghost use Rattle.item_reader.specs.Structure.{file_limit};
-ghost use Rattle.item_reader.specs.Kind.{is_frame_kind, is_target_kind, is_header_kind, is_table_kind};
-ghost use Rattle.item_reader.specs.Record.{layout_in};
-ghost use Rattle.item_reader.specs.Closing.{closes, has_named, is_count, field_named};
-ghost use Rattle.item_reader.specs.Fault.{fields, elements, number, has_header, place, told, fault_at};
-ghost use Rattle.item_reader.specs.Steps.{reason_of};
+ghost use Rattle.file_grammar.specs.declared.kind.Kind.TheVariants as variant;
+ghost use Rattle.file_grammar.specs.Structure.{file_limit};
+ghost use Rattle.file_grammar.specs.Kind.{is_frame_kind, is_target_kind, is_header_kind, is_table_kind};
+ghost use Rattle.file_grammar.specs.Record.{layout_in};
+ghost use Rattle.file_grammar.specs.Closing.{closes, has_named, is_count, field_named};
+ghost use Rattle.file_grammar.specs.Fault.{fields, elements, number, has_header, place, told, fault_at};
+ghost use Rattle.file_grammar.specs.Steps.{reason_of};
 ghost use Rattle.item_reader.specs.Reached.{IsSound, here_of, frame_of};
 ghost use Rattle.item_reader.specs.Judged.{IsHere, kind_here, first_here, ReadsHere, is_read_kind};
 ghost use Rattle.item_reader.specs.Judged.{body_reasons, reading_reasons, weighing_reasons, place_reasons};
 ghost use Rattle.item_reader.specs.Judged.{record_reasons, frame_end_reasons, table_reasons, count_reasons};
 ghost use Rattle.item_reader.specs.Judged.{closing_reasons, IsReadBy, IsRead, IsWeighed};
 
-use crate::closing::{BYTES, FRAMES, TABLE, closes};
-use crate::fault::Fault;
-use crate::kind::Kind;
 use crate::reached::Reached;
-use crate::reason::Reason;
-use crate::structure::{FILE_LIMIT, Placed, RECORD_LIMIT};
+use crate::structure::Placed;
 use dictionary::{Element, first_named};
+use file_grammar::closing::{BYTES, FRAMES, TABLE, closes};
+use file_grammar::{FILE_LIMIT, FRAMES_LIMIT, Fault, Kind, RECORD_LIMIT, Reason};
 use layout_plan::{BodyFault, BodyReason, Measured, Plan, measure, num_at};
 use std::alloc::{AllocError, Global};
 use type_text::Link;
-
-/// The most frames of a file.
-const FRAMES_LIMIT: u64 = 1_000_000;
 
 impl Reached {
     /// The weight of a record that may stand here by its body and its weight.

@@ -1,7 +1,7 @@
 //! A file as far as it is read: its bytes, and what stands before the place reached.
 
 ghost use Rattle.std.specs.Prelude.{◌≡◌, ◌≤◌, IfOk, length};
-ghost use Rattle.item_reader.specs.Item.{nothing_yet};
+ghost use Rattle.file_grammar.specs.Item.{nothing_yet};
 ghost use Rattle.item_reader.specs.Reached.{IsSound, before_of};
 
 use crate::described::BuiltIn;

@@ -1,18 +1,13 @@
 //! Structures where they stand in the bytes of a file.
 
 ghost use Rattle.std.specs.Prelude.{◌≡◌, ◌+◌, ◌≤◌, None, length};
-ghost use Rattle.item_reader.specs.Structure.{common_at};
-ghost use Rattle.item_reader.specs.Steps.{length_reason, IsPlaced, body_of};
+ghost use Rattle.file_grammar.specs.Structure.{common_at};
+ghost use Rattle.file_grammar.specs.Steps.{length_reason};
+ghost use Rattle.item_reader.specs.Placed.{IsPlaced, body_of};
 
-use crate::reason::Reason;
+use file_grammar::{RECORD_LIMIT, Reason};
 use frame_head::{Common, HEAD_SIZE, read_common};
 use scalar_types::Order;
-
-/// The most bytes of a structure, of a record's weight, and of the weights of a frame's records together.
-pub const RECORD_LIMIT: u64 = 4_294_967_295;
-
-/// The most bytes of a file.
-pub const FILE_LIMIT: u64 = 1 << 62;
 
 /// A whole structure: where it stands, in bytes from the beginning of the file, and what its first 14 bytes say.
 #[derive(Clone, Copy)]

@@ -4,22 +4,20 @@ ghost use Rattle.std.specs.Prelude.{◌≡◌, ◌≢◌, ◌≤◌, ◌++◌, �
 ghost use Rattle.std.specs.Option.{option_copied, option_map_or};
 ghost use Rattle.dictionary.specs.Dictionary.{entry_of, IsDictionary};
 ghost use Rattle.dictionary.specs.Same.{AreRead};
-ghost use Rattle.item_reader.specs.declared.kind.Kind.TheVariants as variant;
-ghost use Rattle.item_reader.specs.Kind.{is_target_kind};
-ghost use Rattle.item_reader.specs.Described.{entry_from};
-ghost use Rattle.item_reader.specs.Fault.{fault_here, fault_at, structure};
-ghost use Rattle.item_reader.specs.Steps.{refusal_reason};
+ghost use Rattle.file_grammar.specs.declared.kind.Kind.TheVariants as variant;
+ghost use Rattle.file_grammar.specs.Kind.{is_target_kind};
+ghost use Rattle.file_grammar.specs.Described.{entry_from};
+ghost use Rattle.file_grammar.specs.Fault.{fault_here, fault_at, structure};
+ghost use Rattle.file_grammar.specs.Steps.{refusal_reason};
 ghost use Rattle.item_reader.specs.Reached.{IsSound, Takes, here_of};
 ghost use Rattle.item_reader.specs.Judged.{IsHere, kind_here, first_here, body_reasons, Answers};
 ghost use Rattle.item_reader.specs.Judged.{AnswersHolding};
 
-use crate::fault::Fault;
 use crate::item::{Item, ReadError};
-use crate::kind::{Kind, kind_of};
 use crate::reached::Reached;
-use crate::reason::Reason;
 use crate::structure::{Placed, length_reason, placed_at};
 use dictionary::{AddFault, Dictionary, Entry};
+use file_grammar::{Fault, Kind, Reason, kind_of};
 use std::alloc::Global;
 
 impl Reached {

@@ -1,7 +1,7 @@
 -- The reader is on its way through the file.
 use Rattle.std.proofs.Common.{◌≡◌, ◌-◌, None}
 use Rattle.frame_outside.specs.SlotReader.{Draws}
-use Rattle.item_reader.specs.Structure.{file_limit}
+use Rattle.file_grammar.specs.Structure.{file_limit}
 use Rattle.item_reader.specs.Reader.{Reads}
 use Rattle.frame_tool.proofs.check.check.Given as goal
 

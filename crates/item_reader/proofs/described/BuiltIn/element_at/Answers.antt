@@ -2,7 +2,7 @@ use Rattle.std.proofs.Common.{◌≡◌, refl, sym}
 use Rattle.type_text.specs.TypeText.{type_of}
 use Rattle.layout_plan.specs.declared.fields.Form.TheVariants.{Text}
 use Rattle.layout_plan.specs.BuiltIn.{element_fields}
-use Rattle.item_reader.proofs.Bodies.{single-field}
+use Rattle.file_grammar.proofs.Bodies.{single-field}
 use Rattle.item_reader.proofs.Describing.{element-told}
 use Rattle.item_reader.proofs.described.BuiltIn.element_at.Goals as goal
 

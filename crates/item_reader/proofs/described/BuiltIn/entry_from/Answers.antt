@@ -4,8 +4,8 @@ use Rattle.layout_plan.specs.declared.fields.Form.TheVariants.{Number, Text}
 use Rattle.layout_plan.specs.BuiltIn.{structure_fields}
 use Rattle.layout_plan.specs.Lent.{HasTextAt}
 use Rattle.item_reader.specs.declared.described.BuiltIn.{BuiltIn}
-use Rattle.item_reader.specs.Steps.{body_of}
-use Rattle.item_reader.proofs.Bodies.{single-field}
+use Rattle.item_reader.specs.Placed.{body_of}
+use Rattle.file_grammar.proofs.Bodies.{single-field}
 use Rattle.item_reader.proofs.Describing.{class-fits, entry-told}
 use Rattle.item_reader.proofs.described.BuiltIn.entry_from.Goals as goal
 

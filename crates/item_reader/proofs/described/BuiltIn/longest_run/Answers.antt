@@ -1,5 +1,5 @@
 use Rattle.std.proofs.Common.{Some, subst}
-use Rattle.item_reader.specs.Steps.{DescribesElement}
+use Rattle.item_reader.specs.Placed.{DescribesElement}
 use Rattle.item_reader.proofs.Describing.{runs-more, runs-done}
 use Rattle.item_reader.proofs.described.BuiltIn.longest_run.Goals as goal
 

@@ -1,10 +1,10 @@
 use Rattle.std.proofs.Common.{◌≡◌, ℕ, ◌+◌, ◌||◌, sym, ap, ◌∙◌}
 use Rattle.std.specs.Prelude.{Some, ◌==◌, codes}
 use Rattle.std.specs.Bool.{then_some}
-use Rattle.item_reader.specs.Structure.{end_of}
-use Rattle.item_reader.specs.Kind.{is_file_end_kind}
-use Rattle.item_reader.specs.declared.reason.Reason.TheVariants.{ByteCount}
-use Rattle.item_reader.specs.Fault.{structure, number, fault_at}
+use Rattle.file_grammar.specs.Structure.{end_of}
+use Rattle.file_grammar.specs.Kind.{is_file_end_kind}
+use Rattle.file_grammar.specs.declared.reason.Reason.TheVariants.{ByteCount}
+use Rattle.file_grammar.specs.Fault.{structure, number, fault_at}
 use Rattle.item_reader.specs.Reached.{here_of}
 use Rattle.item_reader.proofs.Located.{end-here}
 use Rattle.item_reader.proofs.Parts.{bytes-told, told-right}

@@ -1,6 +1,6 @@
 use Rattle.std.proofs.Common.{◌≡◌, drop, map}
-use Rattle.item_reader.specs.Structure.{structure_at}
-use Rattle.item_reader.specs.Record.{first_loose}
+use Rattle.file_grammar.specs.Structure.{structure_at}
+use Rattle.file_grammar.specs.Record.{first_loose}
 use Rattle.item_reader.specs.Reached.{frame_of}
 use Rattle.item_reader.proofs.reached.Reached.first_loose.Given as goal
 

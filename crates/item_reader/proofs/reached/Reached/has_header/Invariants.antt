@@ -1,6 +1,6 @@
 use Rattle.std.proofs.Common.{◌≡◌, drop, map}
-use Rattle.item_reader.specs.Structure.{structure_at}
-use Rattle.item_reader.specs.Fault.{has_header}
+use Rattle.file_grammar.specs.Structure.{structure_at}
+use Rattle.file_grammar.specs.Fault.{has_header}
 use Rattle.item_reader.specs.Reached.{frame_of}
 use Rattle.item_reader.proofs.reached.Reached.has_header.Given as goal
 

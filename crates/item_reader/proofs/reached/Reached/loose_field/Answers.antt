@@ -1,6 +1,6 @@
 use Rattle.std.proofs.Common.{ap, ◌∙◌}
-use Rattle.item_reader.specs.Structure.{structure_at}
-use Rattle.item_reader.specs.Record.{values_of, loose_field}
+use Rattle.file_grammar.specs.Structure.{structure_at}
+use Rattle.file_grammar.specs.Record.{values_of, loose_field}
 use Rattle.item_reader.specs.Reached.{frame_of}
 use Rattle.item_reader.proofs.LooseLinks.{placed-body, put-links}
 use Rattle.item_reader.proofs.reached.Reached.loose_field.Goals as goal

@@ -1,7 +1,7 @@
 use Rattle.std.proofs.Common.{◌≡◌, sym, ◌∙◌, subst, arith}
 use Rattle.layout_plan.specs.Body.{HasBody}
 use Rattle.layout_plan.specs.Lent.{HasNumberAt}
-use Rattle.item_reader.specs.Fault.{structure}
+use Rattle.file_grammar.specs.Fault.{structure}
 use Rattle.item_reader.specs.Reached.{here_of}
 use Rattle.item_reader.proofs.Located.{body-here}
 use Rattle.item_reader.proofs.Numbers.{number-told, number-here, plan-here, named-here}

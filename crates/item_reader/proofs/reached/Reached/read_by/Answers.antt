@@ -1,7 +1,7 @@
 use Rattle.std.proofs.Common.{◌≡◌, sym, ◌∙◌, subst}
 use Rattle.layout_plan.specs.Body.{IsMeasured}
-use Rattle.item_reader.specs.Structure.{size_of}
-use Rattle.item_reader.specs.Fault.{structure, told}
+use Rattle.file_grammar.specs.Structure.{size_of}
+use Rattle.file_grammar.specs.Fault.{structure, told}
 use Rattle.item_reader.specs.Reached.{here_of}
 use Rattle.item_reader.proofs.Located.{body-here, size-here, told-here}
 use Rattle.item_reader.proofs.Parts.{measured-read}

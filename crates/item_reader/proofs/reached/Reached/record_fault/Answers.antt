@@ -1,7 +1,7 @@
 use Rattle.std.proofs.Common.{◌≡◌, true, sym, ap, ◌∙◌}
 use Rattle.std.specs.Prelude.{Some, ◌&&◌}
-use Rattle.item_reader.specs.Kind.{is_target_kind, is_header_kind}
-use Rattle.item_reader.specs.Fault.{structure, has_header}
+use Rattle.file_grammar.specs.Kind.{is_target_kind, is_header_kind}
+use Rattle.file_grammar.specs.Fault.{structure, has_header}
 use Rattle.item_reader.specs.Reached.{here_of, frame_of}
 use Rattle.item_reader.specs.Judged.{kind_here}
 use Rattle.item_reader.proofs.Located.{class-here, instance-here}

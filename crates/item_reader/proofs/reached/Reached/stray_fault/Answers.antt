@@ -1,5 +1,5 @@
 use Rattle.std.proofs.Common.{◌∷◌, [], ◌∙◌}
-use Rattle.item_reader.specs.declared.reason.Reason.TheVariants.{StrayElement}
+use Rattle.file_grammar.specs.declared.reason.Reason.TheVariants.{StrayElement}
 use Rattle.item_reader.specs.Reached.{here_of}
 use Rattle.item_reader.specs.Judged.{body_reasons}
 use Rattle.item_reader.proofs.Located.{fault-kind}

@@ -1,4 +1,4 @@
-use Rattle.item_reader.specs.Fault.{elements}
+use Rattle.file_grammar.specs.Fault.{elements}
 use Rattle.item_reader.specs.Reached.{here_of}
 use Rattle.item_reader.proofs.Numbers.{closes-named}
 use Rattle.item_reader.proofs.reached.Reached.table_seek.Goals as goal

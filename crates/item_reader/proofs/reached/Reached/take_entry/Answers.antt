@@ -3,12 +3,12 @@ use Rattle.std.specs.Prelude.{Some}
 use Rattle.layout_plan.specs.Body.{HasBody}
 use Rattle.layout_plan.specs.BuiltIn.{structure_fields}
 use Rattle.item_reader.specs.declared.described.BuiltIn.{BuiltIn}
-use Rattle.item_reader.specs.Fault.{structure, fields}
+use Rattle.file_grammar.specs.Fault.{structure, fields}
 use Rattle.item_reader.specs.declared.item.ReadError.TheVariants as errors
 use Rattle.item_reader.specs.Reached.{here_of}
 use Rattle.item_reader.specs.Judged.{body_reasons, entry_reasons}
 use Rattle.item_reader.proofs.Located.{fault-kind, body-here}
-use Rattle.item_reader.proofs.Readings.{fields-FrSH}
+use Rattle.file_grammar.proofs.Readings.{fields-FrSH}
 use Rattle.item_reader.proofs.Parts.{entry-parts, first_of-front, read-spelled}
 use Rattle.item_reader.proofs.Taken.{passed-on, takes-entry, entry-answers}
 use Rattle.item_reader.proofs.reached.Reached.take_entry.Goals as goal

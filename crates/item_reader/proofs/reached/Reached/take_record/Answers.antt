@@ -3,7 +3,7 @@ use Rattle.std.specs.Prelude.{is_ok}
 use Rattle.std.proofs.lemmas.Bool.{cond-true}
 use Rattle.item_reader.specs.declared.item.ReadError.TheVariants as errors
 use Rattle.item_reader.specs.declared.reached.Reached.{Reached}
-use Rattle.item_reader.specs.Kind.{is_target_kind}
+use Rattle.file_grammar.specs.Kind.{is_target_kind}
 use Rattle.item_reader.specs.Reached.{here_of}
 use Rattle.item_reader.specs.Judged.{kind_here, first_here, weighing_reasons, record_reasons, Answers}
 use Rattle.item_reader.proofs.Located.{fault-kind, fits-here}

@@ -1,6 +1,6 @@
 -- The file that was taken whole, and its header.
 use Rattle.std.proofs.Common.{◌≡◌, inl, ap, sym, subst, ◌∙◌, arith}
-use Rattle.item_reader.specs.Fault.{IsHeaderFault}
+use Rattle.file_grammar.specs.Fault.{IsHeaderFault}
 use Rattle.item_reader.proofs.ReadOn.{whole, file-draws, source-draws, begun, keeps_begun, fault-made}
 use Rattle.item_reader.proofs.reader.ItemReader.begin.Goals as goal
 

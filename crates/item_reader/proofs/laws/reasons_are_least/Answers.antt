@@ -1,7 +1,0 @@
--- The reason named is the least, as `Least` proves, and no item stands at a fault, as `OneAnswer` does.
-use Rattle.item_reader.proofs.Least.{least}
-use Rattle.item_reader.proofs.OneAnswer.{no_item_at_fault}
-use Rattle.item_reader.proofs.laws.reasons_are_least.Goals as goal
-
-pub returns : goal.returns
-returns c = record { least = least; longest = no_item_at_fault }
