@@ -1,12 +1,3 @@
 pub mod Growing
 pub mod Located
 pub mod Parts
-pub mod LooseLinks
-pub mod Placing
-pub mod Describing
-pub mod Taken
-pub mod ReadOn
-pub mod ReadsStay
-pub mod Numbers
-pub mod Holding
-pub mod LentBody

@@ -2,36 +2,33 @@
 use Rattle.std.proofs.Common.{◌≡◌, ◌+◌, ◌<◌, ◌≤◌, false, length, None, sym, ap, ◌∙◌, arith}
 use Rattle.std.specs.Prelude.{◌==◌}
 use Rattle.std.proofs.lemmas.Bool.{ne_eqb}
-use Rattle.item_reader.specs.declared.reached.Reached.{Reached}
 use Rattle.item_reader.specs.declared.structure.Placed.{Placed}
 use Rattle.file_grammar.specs.Structure.{Structure, size_of, end_of, record_limit}
-use Rattle.file_grammar.specs.Fault.{Here, place, left, told, class, structure, reasons, first_of, fault_by, fault_here}
+use Rattle.file_grammar.specs.Fault.{Here, place, left, told, class, kind, structure, reasons, first_of, fault_by, fault_here}
 use Rattle.file_grammar.specs.Steps.{length_reason, reasons_of}
-use Rattle.item_reader.specs.Placed.{body_of}
-use Rattle.item_reader.specs.Reached.{here_of}
-use Rattle.item_reader.specs.Judged.{IsHere, kind_here}
+use Rattle.item_reader.specs.Placed.{body_of, IsPlaced}
 use Rattle.file_grammar.proofs.Lengths.{Fits, fits-length}
 use Rattle.file_grammar.proofs.Structures.{size-structure_at}
 use Rattle.file_grammar.proofs.Judging.{first_of-kind}
 
-pub told-here : (r : Reached) (p : Placed) → IsHere r p → told (here_of r) ≡ p.length
-told-here r p here = sym here.length_is
+pub told-here : (h : Here) (p : Placed) → IsPlaced h.order h.file (place h) p → told h ≡ p.length
+told-here h p here = sym here.length_is
 
-pub class-here : (r : Reached) (p : Placed) → IsHere r p → class (here_of r) ≡ p.class
-class-here r p here = ap (λ (s : Structure). s.class) here.is
+pub class-here : (h : Here) (p : Placed) → IsPlaced h.order h.file (place h) p → class h ≡ p.class
+class-here h p here = ap (λ (s : Structure). s.class) here.is
 
-pub instance-here : (r : Reached) (p : Placed) → IsHere r p → (structure (here_of r)).instance ≡ p.instance
-instance-here r p here = ap (λ (s : Structure). s.instance) here.is
+pub instance-here : (h : Here) (p : Placed) → IsPlaced h.order h.file (place h) p → (structure h).instance ≡ p.instance
+instance-here h p here = ap (λ (s : Structure). s.instance) here.is
 
-pub body-here : (r : Reached) (p : Placed) → IsHere r p → (structure (here_of r)).body ≡ body_of r.file.items p
-body-here r p here = ap (λ (s : Structure). s.body) here.is
+pub body-here : (h : Here) (p : Placed) → IsPlaced h.order h.file (place h) p → (structure h).body ≡ body_of h.file p
+body-here h p here = ap (λ (s : Structure). s.body) here.is
 
-pub fits-here : (r : Reached) (p : Placed) → IsHere r p → Fits (left (here_of r)) (told (here_of r))
-fits-here r p here =
-    let same : told (here_of r) ≡ p.length = told-here r p here in
+pub fits-here : (h : Here) (p : Placed) → IsPlaced h.order h.file (place h) p → Fits (left h) (told h)
+fits-here h p here =
+    let same : told h ≡ p.length = told-here h p here in
     let head : 14 ≤ p.length = here.head in
     let small : p.length ≤ record_limit = here.small in
-    let within : r.at + p.length ≤ length r.file.items = here.within in
+    let within : place h + p.length ≤ length h.file = here.within in
     record {
       head = omega (arith, head, within);
       enough = omega (arith, same, head);
@@ -39,22 +36,22 @@ fits-here r p here =
       whole = omega (arith, same, head, within);
     }
 
-pub whole-here : (r : Reached) (p : Placed) → IsHere r p → length_reason r.order r.file.items r.at ≡ None
-whole-here r p here = fits-length r.order r.file.items r.at (fits-here r p here)
+pub whole-here : (h : Here) (p : Placed) → IsPlaced h.order h.file (place h) p → length_reason h.order h.file (place h) ≡ None
+whole-here h p here = fits-length h.order h.file (place h) (fits-here h p here)
 
-pub within-here : (r : Reached) (p : Placed) → IsHere r p → r.at < length r.file.items
-within-here r p here =
+pub within-here : (h : Here) (p : Placed) → IsPlaced h.order h.file (place h) p → place h < length h.file
+within-here h p here =
     let head : 14 ≤ p.length = here.head in
-    let within : r.at + p.length ≤ length r.file.items = here.within in
+    let within : place h + p.length ≤ length h.file = here.within in
     omega (arith, head, within)
 
 -- its size, and the place after it
-pub size-here : (r : Reached) (p : Placed) → IsHere r p → size_of (structure (here_of r)) ≡ p.length
-size-here r p here =
-    size-structure_at r.order r.file.items r.at (fits-here r p here) ∙ told-here r p here
+pub size-here : (h : Here) (p : Placed) → IsPlaced h.order h.file (place h) p → size_of (structure h) ≡ p.length
+size-here h p here =
+    size-structure_at h.order h.file (place h) (fits-here h p here) ∙ told-here h p here
 
-pub end-here : (r : Reached) (p : Placed) → IsHere r p → end_of (structure (here_of r)) ≡ r.at + p.length
-end-here r p here = ap (λ n. r.at + n) (size-here r p here)
+pub end-here : (h : Here) (p : Placed) → IsPlaced h.order h.file (place h) p → end_of (structure h) ≡ place h + p.length
+end-here h p here = ap (λ n. place h + n) (size-here h p here)
 
 -- ---- faults
 
@@ -65,8 +62,8 @@ fault-open h unclosed within =
     ∙ ap (λ ends. fault_by false ends h) (ne_eqb (place h) (length h.file) (λ same. omega (arith, within, same)))
 
 -- and where they are one, the first reason of its kind
-pub fault-kind : (r : Reached) (p : Placed) → r.closed ≡ false → IsHere r p
-    → fault_here (here_of r) ≡ first_of (reasons_of (kind_here r)) (here_of r)
-fault-kind r p unclosed here =
-    fault-open (here_of r) unclosed (within-here r p here)
-    ∙ first_of-kind (here_of r) (within-here r p here) (whole-here r p here)
+pub fault-kind : (h : Here) (p : Placed) → h.before.closed ≡ false → IsPlaced h.order h.file (place h) p
+    → fault_here h ≡ first_of (reasons_of (kind h)) h
+fault-kind h p unclosed here =
+    fault-open h unclosed (within-here h p here)
+    ∙ first_of-kind h (within-here h p here) (whole-here h p here)

@@ -1,12 +1,16 @@
 -- What the code judges of a whole structure at the place reached, part by part. Each part is a list of reasons in the
 -- order of their numbers.
-use Rattle.std.specs.Prelude.{◌≡◌, ◌≢◌, ◌↔◌, ℕ, ◌+◌, ◌≤◌, ⊤, IsTrue, Bool, ◌||◌, List, [], ◌∷◌, length, Option, Some}
-use Rattle.std.specs.Prelude.{None, Result, Ok, Err}
+use Rattle.std.specs.Prelude.{◌≡◌, ◌≢◌, ◌↔◌, ℕ, ◌+◌, ◌≤◌, ⊤, IsTrue, Bool, ◌||◌, List, [], ◌∷◌, ◌++◌, length, take}
+use Rattle.std.specs.Prelude.{map, sum_by, Option, Some, None, Result, Ok, Err}
 use Rattle.dictionary.specs.declared.entries.Entry.{Entry}
 use Rattle.dictionary.specs.Dictionary.{step}
+use Rattle.scalar_types.specs.declared.Order.{Order}
 use Rattle.layout_plan.specs.declared.fields.Field.{Field}
 use Rattle.layout_plan.specs.Body.{values_length}
 use Rattle.layout_plan.specs.Plans.{plan_of}
+use Rattle.link_graph.specs.declared.nodes.Node.{Node}
+use Rattle.link_graph.specs.Graph.{graph_of}
+use Rattle.rooted_graph.specs.BreadthOrder.{IsBreadthOrder}
 use Rattle.file_grammar.specs.declared.reason.Reason.{Reason}
 use Rattle.file_grammar.specs.declared.reason.Reason.TheVariants.{RecordLimit, FrameLimit, NoLayout, UnreadLayout}
 use Rattle.file_grammar.specs.declared.reason.Reason.TheVariants.{BodyShort, BodyLong, BadText, ClassRange, Redefined}
@@ -15,29 +19,25 @@ use Rattle.file_grammar.specs.declared.reason.Reason.TheVariants.{NoFrameH, Loos
 use Rattle.file_grammar.specs.declared.reason.Reason.TheVariants.{FrameCount, ByteCount, FileLimit, FramesLimit}
 use Rattle.file_grammar.specs.declared.fault.Fault.{Fault}
 use Rattle.file_grammar.specs.declared.kind.Kind.{Kind}
+use Rattle.file_grammar.specs.Structure.{record_limit, size_of, end_of, structure_at}
+use Rattle.file_grammar.specs.Kind.{is_frame_kind, is_file_end_kind}
+use Rattle.file_grammar.specs.Record.{Reading, reading_by, reading_of, layout_in}
+use Rattle.file_grammar.specs.Described.{longest_run, entry_from}
+use Rattle.file_grammar.specs.Item.{Item, after as after_item}
+use Rattle.file_grammar.specs.Fault.{Here, told, held, kind, structure, weight, load, first_of, fault_here}
+use Rattle.file_grammar.specs.Steps.{item_here}
 use Rattle.item_reader.specs.declared.item.Item.{Item as Given}
 use Rattle.item_reader.specs.declared.item.ReadError.{ReadError}
 use Rattle.item_reader.specs.declared.item.ReadError.TheVariants as error
-use Rattle.item_reader.specs.declared.reached.Reached.{Reached}
+use Rattle.item_reader.specs.declared.state.State.{State}
 use Rattle.item_reader.specs.declared.structure.Placed.{Placed}
-use Rattle.file_grammar.specs.Structure.{record_limit}
-use Rattle.file_grammar.specs.Kind.{is_frame_kind, is_file_end_kind}
-use Rattle.file_grammar.specs.Record.{Reading, reading_by, reading_of, layout_in}
-use Rattle.file_grammar.specs.Fault.{Here, told, held, kind, structure, weight, load, first_of, fault_here}
-use Rattle.item_reader.specs.Placed.{IsPlaced}
-use Rattle.item_reader.specs.Reached.{here_of, Takes}
+use Rattle.item_reader.specs.Placed.{StandsIn, structure_by}
+use Rattle.item_reader.specs.State.{IsSound, before_of, here_in, bodied_of, node_of}
+use Rattle.item_reader.specs.Given.{Tells}
 
--- the structure is the one at the place reached
-abbrev pub IsHere : Reached → Placed → Type 0
-IsHere r p = IsPlaced r.order r.file.items r.at p
-
--- its kind
-abbrev pub kind_here : Reached → Kind
-kind_here r = kind (here_of r)
-
--- the first of some reasons that holds of it
-abbrev pub first_here : List Reason → Reached → Option Fault
-first_here reasons r = first_of reasons (here_of r)
+-- What holds of every file in which a whole structure with this body stands at the place reached.
+abbrev pub InEachFile : State → Placed → List ℕ → (Here → Type 0) → Type 0
+InEachFile s p body P = (file : List ℕ) → StandsIn s.segment.order s.at p body file → P (here_in s file)
 
 -- its body reads by the layout of its class
 abbrev pub ReadsHere : Here → Type 0
@@ -65,9 +65,13 @@ weighing_reasons = RecordLimit ∷ FrameLimit ∷ reading_reasons
 abbrev pub place_reasons : List Reason
 place_reasons = AfterTable ∷ FileLimit ∷ []
 
+-- of a record that is no end record and has no twin in its frame
+abbrev pub later_record_reasons : List Reason
+later_record_reasons = FrameHTwice ∷ place_reasons
+
 -- of a record that is no end record, in its frame
 abbrev pub record_reasons : List Reason
-record_reasons = InstanceTwice ∷ FrameHTwice ∷ place_reasons
+record_reasons = InstanceTwice ∷ later_record_reasons
 
 -- of the end of a frame
 abbrev pub frame_end_reasons : List Reason
@@ -109,27 +113,78 @@ pub record IsWeighed (h : Here) (told_weight : ℕ) : Type 0 where
   pub reads : ReadsHere h
   pub none : first_of weighing_reasons h ≡ None
   pub weight_is : told_weight ≡ weight h
-  pub long : 14 ≤ told_weight
-  pub within : load h + told_weight ≤ record_limit
+
+-- ---- entries
+
+-- the most elements that are kept of an entry: one more than an entry may have
+abbrev pub kept_elements : ℕ
+kept_elements = 4097
+
+-- an entry with its first elements alone
+abbrev pub cut_entry : Entry → Entry
+cut_entry e = record e { elements = take kept_elements e.elements }
+
+-- The FrSH at a place begins an entry: this is the entry with its first elements, and this the place after its run.
+pub record DescribesEntry (order : Order) (file : List ℕ) (at : ℕ) (entry : Entry) (end : ℕ) : Type 0 where
+  pub full : Entry
+  pub full_is : entry_from order file (structure_at order file at) ≡ Some full
+  pub entry_is : entry ≡ cut_entry full
+  pub end_is : end ≡ end_of (structure_at order file at)
+      + sum_by (λ e. size_of e.0) (longest_run order file (end_of (structure_at order file at)))
+  pub within : end ≤ length file
 
 -- the dictionary took an entry, and the plans are those of its entries
-pub record Holds (old : Reached) (entry : Entry) (changed : Bool) (new : Reached) : Type 0 where
-  pub none : first_here entry_reasons old ≡ None
+pub record Holds (old : State) (entry : Entry) (changed : Bool) (new : State) : Type 0 where
   pub step_is : step old.dictionary entry ≡ Ok new.dictionary
   pub changed_is : IsTrue changed ↔ (new.dictionary ≢ old.dictionary)
   pub plans : (class : ℕ) → plan_of new.plans class ≡ layout_in new.dictionary class
   pub rest : new ≡ record old { dictionary = new.dictionary; plans = new.plans }
 
--- what holding it answers
-abbrev pub AnswersHolding : Reached → Entry → Result Bool ReadError → Reached → Type 0
-AnswersHolding old entry (Ok changed) new = Holds old entry changed new
-AnswersHolding old entry (Err (error.Fault fault)) new = first_here entry_reasons old ≡ Some fault
-AnswersHolding old entry (Err error.Device) new = ⊥
-AnswersHolding old entry (Err error.NoMemory) new = ⊤
+-- what holding it answers at a place where it stands
+abbrev pub AnswersHolding : Here → Result Bool ReadError → Type 0
+AnswersHolding h (Ok changed) = first_of entry_reasons h ≡ None
+AnswersHolding h (Err (error.Fault fault)) = first_of entry_reasons h ≡ Some fault
+AnswersHolding h (Err error.Device) = ⊥
+AnswersHolding h (Err error.NoMemory) = ⊤
+
+-- ---- items
+
+-- The item at a place was taken: there is no fault, the item is given as it is, and it stands before the place reached
+-- now.
+pub record Takes (h : Here) (item : Given) (new : State) : Type 0 where
+  pub judged : fault_here h ≡ None
+  pub taken : Item
+  pub is : item_here h ≡ Some taken
+  pub tells : Tells h taken item
+  pub after : before_of new ≡ after_item h.order h.before taken
 
 -- what taking an item answers
-abbrev pub Answers : Reached → Result Given ReadError → Reached → Type 0
-Answers old (Ok item) new = Takes old item new
-Answers old (Err (error.Fault fault)) new = fault_here (here_of old) ≡ Some fault
-Answers old (Err error.Device) new = ⊥
-Answers old (Err error.NoMemory) new = ⊤
+abbrev pub Answers : Here → Result Given ReadError → State → Type 0
+Answers h (Ok item) new = Takes h item new
+Answers h (Err (error.Fault fault)) new = fault_here h ≡ Some fault
+Answers h (Err error.Device) new = ⊥
+Answers h (Err error.NoMemory) new = ⊤
+
+-- what is kept after an item: it fits together, no body is pending, and the byte order is the same
+pub record IsKept (old new : State) : Type 0 where
+  pub sound : IsSound new
+  pub pending : new.segment.pending ≡ []
+  pub order : new.segment.order ≡ old.segment.order
+
+-- the segment and its numbering are as they were
+pub record IsOpenStill (old new : State) : Type 0 where
+  pub segment : new.segment ≡ old.segment
+  pub numbering : new.numbering ≡ old.numbering
+
+-- the node of a structure
+abbrev pub node_by : List Entry → Placed → Node
+node_by held p = node_of held (structure_by p [])
+
+-- A frame has ended: its records are those that were open, with the end record, and a breadth-first order goes with it.
+pub record EndsFrame (old : State) (p : Placed) (new : State) : Type 0 where
+  pub nodes : new.segment.nodes ≡ old.segment.nodes
+  pub end_record : new.segment.end_record ≡ Some (bodied_of old.dictionary (structure_by p old.segment.pending))
+  pub numbers : List ℕ
+  pub numbering : new.numbering ≡ Some numbers
+  pub breadth : IsBreadthOrder (graph_of old.plans old.segment) numbers
+  pub plans : new.plans ≡ old.plans

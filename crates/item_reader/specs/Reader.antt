@@ -1,49 +1,82 @@
 -- What callers know of a reader of items, and what its calls do.
-use Rattle.std.specs.Prelude.{◌≡◌, ℕ, ◌≤◌, ◌⊎◌, ◌+◌, true, is_none, is_some, if◌then◌else◌, List, length, slice_range}
-use Rattle.std.specs.Prelude.{Option, Some, None, option_map, ⊤}
+use Rattle.std.specs.Prelude.{◌≡◌, ℕ, ◌+◌, ◌≤◌, ◌⊎◌, true, List, [], ◌∷◌, ◌++◌, map, Option, Some, None, ⊤}
+use Rattle.std.specs.Prelude.{option_map, slice_get}
+use Rattle.std.specs.Option.{option_map_or}
 use Rattle.scalar_types.specs.declared.Order.{Order}
-use Rattle.frame_outside.specs.Shelf.{Outside, Told, IsSource, reading_at}
-use Rattle.layout_plan.specs.declared.fields.Field.{Field}
+use Rattle.frame_outside.specs.Shelf.{Outside, Told, reading_at}
 use Rattle.layout_plan.specs.Plans.{plan_of}
+use Rattle.rooted_graph.specs.BreadthOrder.{IsBreadthOrder}
+use Rattle.link_graph.specs.Collected.{Bodied, Collected}
+use Rattle.link_graph.specs.Graph.{Layouts, graph_of}
+use Rattle.structure_source.specs.Source.{Position, Stands, drawn}
 use Rattle.file_grammar.specs.declared.fault.Fault.{Fault}
+use Rattle.file_grammar.specs.Structure.{Structure}
+use Rattle.file_grammar.specs.Record.{layout_in}
+use Rattle.file_grammar.specs.Item.{Item, Before, after}
+use Rattle.file_grammar.specs.MayStand.{MayStand, Begins, IsWellFormed}
+use Rattle.file_grammar.specs.Fault.{Here, fault_here, structure}
+use Rattle.file_grammar.specs.Steps.{item_here}
 use Rattle.item_reader.specs.declared.item.Item.{Item as Given}
 use Rattle.item_reader.specs.declared.item.Item.TheVariants as given
 use Rattle.item_reader.specs.declared.item.ReadError.{ReadError}
-use Rattle.file_grammar.specs.Item.{Item, Before, after}
-use Rattle.file_grammar.specs.MayStand.{MayStand, Begins, IsWellFormed}
-use Rattle.file_grammar.specs.Fault.{Here, fault_here}
-use Rattle.item_reader.specs.declared.reached.Reached.{Reached}
-use Rattle.file_grammar.specs.Steps.{item_here}
-use Rattle.item_reader.specs.Reached.{IsSound, here_of, Takes}
+use Rattle.item_reader.specs.declared.looked.Looked.{Looked}
+use Rattle.item_reader.specs.declared.cursor.Cursor.{Cursor}
+use Rattle.item_reader.specs.Looked.{ReadsTo, IsLooked, look, IsWithinLook}
+use Rattle.item_reader.specs.State.{IsSound, bodied_of}
 use Rattle.item_reader.specs.Given.{Tells, body_after}
 
--- What callers know of a reader: the slot that it reads, the byte order, what stands before the place that it has
--- reached, the last body, the end of the file once it was given, and the error once there was one. It has taken these
--- bytes of the slot.
+-- What callers know of a reader: where it stands in the file, the byte order, what stands before the place that it has
+-- reached, the frame collected and the order of one that has ended, the last body, the last item, what was looked at
+-- beyond it, and the error once there was one.
 pub record Reader : Type 0 where
-  pub slot : ℕ
+  pub position : Position
   pub order : Order
   pub before : Before
+  pub segment : Collected
+  pub numbering : Option (List ℕ)
   pub body : List ℕ
   pub last : Option Given
+  pub looked : Looked
   pub error : Option ReadError
-  pub bytes : List ℕ
 
 -- the bytes that a slot was opened on, where the shelf tells them
 abbrev pub file_of : Outside → ℕ → Option (List ℕ)
 file_of outside slot = option_map (λ reading. reading.opened) (reading_at outside.slots slot)
 
--- the reader has given the items of the file up to its place
+-- the item is the end of a frame, or of the file
+abbrev pub IsFrameEnd : Given → Type 0
+IsFrameEnd (given.FrameEnd at class) = ⊤
+IsFrameEnd item = ⊥
+
+abbrev pub IsFileEnd : Given → Type 0
+IsFileEnd (given.FileEnd at class length seek) = ⊤
+IsFileEnd item = ⊥
+
+-- The last of the items that a reader has given, as it was given.
+pub record HasLast (file : List ℕ) (order : Order) (items : List Item) (given : Given) : Type 0 where
+  pub earlier : List Item
+  pub before : Before
+  pub begins : Begins file order earlier before
+  pub taken : Item
+  pub items_are : items ≡ earlier ++ taken ∷ []
+  pub tells : Tells (record { order = order; file = file; before = before }) taken given
+
+abbrev pub IsLast : List ℕ → Order → List Item → Option Given → Type 0
+IsLast file order items None = items ≡ []
+IsLast file order items (Some given) = HasLast file order items given
+
+-- the reader has given the items of the file up to its place, and has looked at what stands there
 pub record HasRead (file : List ℕ) (r : Reader) : Type 0 where
   pub items : List Item
   pub begins : Begins file r.order items r.before
-  pub taken : r.bytes ≡ file
+  pub last : IsLast file r.order items r.last
+  pub looked : IsLooked r.order file r.before.place r.position.at r.looked
 
--- The reader reads this slot of this shelf: it is a source slot, and, while there was no error, what the reader has
--- given are the first items of the bytes that the slot was opened on.
+-- The reader reads its slot of this shelf: it stands in it, and, while there was no error, what the reader has given
+-- are the first items of the bytes that the slot was opened on.
 pub record Reads (outside : Outside) (r : Reader) : Type 0 where
-  pub source : IsSource outside.slots r.slot
-  pub read : r.error ≡ None → Told (file_of outside r.slot) (λ file. HasRead file r)
+  pub stands : Stands outside r.position
+  pub read : r.error ≡ None → Told (file_of outside r.position.slot) (λ file. HasRead file r)
 
 -- what the reader knows after an item
 pub record Goes (file : List ℕ) (old : Reader) (item : Given) (new : Reader) : Type 0 where
@@ -57,11 +90,6 @@ pub record Goes (file : List ℕ) (old : Reader) (item : Given) (new : Reader) :
 abbrev pub HasEnded : List ℕ → Reader → Type 0
 HasEnded file r = (items : List Item) × IsWellFormed file r.order items r.before
 
--- the item is the end of the file
-abbrev pub IsFileEnd : Given → Type 0
-IsFileEnd (given.FileEnd at class length seek) = ⊤
-IsFileEnd item = ⊥
-
 -- The fault of what stands at a place, or, where that is an item that may stand there and closes the file, of what
 -- stands after it.
 abbrev pub Faults : Here → Fault → Type 0
@@ -71,25 +99,67 @@ Faults h fault =
     × ((after h.order h.before item).closed ≡ true)
     × (fault_here (record h { before = after h.order h.before item }) ≡ Some fault))
 
--- An item was taken, its body stands there, and the end of the file is at the file's end.
-pub record TakesOn (old : Reached) (item : Given) (body : ℕ × ℕ) (new : Reached) : Type 0 where
-  pub takes : Takes old item new
-  pub forward : body.0 ≤ body.1
-  pub within : body.1 ≤ length new.file.items
-  pub body_is : slice_range new.file.items body.0 body.1 ≡ body_after (here_of old) takes.taken
-  pub end : new.closed ≡ true → new.at ≡ length new.file.items
+-- ---- frames
 
--- What a reader keeps while there was no error: the file as far as it is read, and the end of the file where that
--- stands, which is at the file's end.
-pub record Keeps (reached : Reached) (last : Option Given) : Type 0 where
-  pub sound : IsSound reached
-  pub closed : reached.closed ≡ is_some last
-  pub end : reached.closed ≡ true → reached.at ≡ length reached.file.items
-  pub given : (item : Given) → last ≡ Some item → IsFileEnd item
+-- The segment is the frame that is open.
+pub record IsFrameOf (order : Order) (before : Before) (segment : Collected) : Type 0 where
+  pub order_is : segment.order ≡ order
+  pub nodes : segment.nodes ≡ map (bodied_of before.dictionary) before.frame
+  pub end_record : segment.end_record ≡ None
+  pub pending : segment.pending ≡ []
 
--- where the body of an item stands that begins and ends at these places, by the plans of the classes
-abbrev pub body_range : List (ℕ × List Field) → ℕ → ℕ → Given → ℕ × ℕ
-body_range plans at end (given.Entry place class changed) = (at, at)
-body_range plans at end (given.Table place class length) = if is_none (plan_of plans class) then (at, at)
-    else (at + 14, end)
-body_range plans at end item = (at + 14, end)
+-- The segment is the frame that was open, with its end record, and the numbering is the breadth-first order of the
+-- frame.
+pub record IsEndedFrame (order : Order) (before : Before) (end_is : Structure) (numbering : Option (List ℕ))
+    (segment : Collected) : Type 0 where
+  pub order_is : segment.order ≡ order
+  pub nodes : segment.nodes ≡ map (bodied_of before.dictionary) before.frame
+  pub end_record : segment.end_record ≡ Some (bodied_of before.dictionary end_is)
+  pub pending : segment.pending ≡ []
+  pub numbers : List ℕ
+  pub numbering_is : numbering ≡ Some numbers
+  pub breadth : (plans : Layouts) → ((class : ℕ) → plan_of plans class ≡ layout_in before.dictionary class)
+      → IsBreadthOrder (graph_of plans segment) numbers
+
+-- What is collected after an item: at the end of a frame that frame, else the frame that is open.
+abbrev pub Collects : List ℕ → Reader → Given → Reader → Type 0
+Collects file old (given.FrameEnd at class) new =
+    IsEndedFrame old.order old.before
+    (structure (record { order = old.order; file = file; before = old.before })) new.numbering new.segment
+Collects file old item new = IsFrameOf new.order new.before new.segment × (new.numbering ≡ None)
+
+-- ---- what was drawn
+
+-- the bytes drawn of the file reach no further than the look of the place
+abbrev pub DrawsNoFurther : List ℕ → Reader → Type 0
+DrawsNoFurther file r = drawn r.position ≤ look r.order file r.before.place
+
+-- A look reaches at least 65,550 bytes beyond its place.
+abbrev pub LooksReachBeyond : Type 0
+LooksReachBeyond = (order : Order) (file : List ℕ) (place : ℕ) → place + 65550 ≤ look order file place
+
+-- A reader has drawn no further than the look of the place that it has reached.
+abbrev pub ReadersReadNoFurther : Type 0
+ReadersReadNoFurther =
+    (outside : Outside) (r : Reader) → Reads outside r → r.error ≡ None
+    → Told (file_of outside r.position.slot) (λ file. DrawsNoFurther file r)
+
+-- ---- of the inside
+
+-- the body that is lent after an item: a record's stands in the segment, that of a table or of the file's end apart
+abbrev pub body_in : Option Given → List ℕ → Collected → List ℕ
+body_in None own segment = []
+body_in (Some (given.Entry at class changed)) own segment = []
+body_in (Some (given.Plain at class instance node)) own segment =
+    option_map_or (λ (r : Bodied). r.body) (slice_get segment.nodes node) []
+body_in (Some (given.FrameEnd at class)) own segment = option_map_or (λ (r : Bodied). r.body) segment.end_record []
+body_in (Some (given.Table at class length)) own segment = own
+body_in (Some (given.FileEnd at class length seek)) own segment = own
+
+-- What a reader keeps while there was no error.
+pub record Keeps (c : Cursor) (last : Option Given) : Type 0 where
+  pub sound : IsSound c.state
+  pub pending : c.state.segment.pending ≡ []
+  pub read : ReadsTo c.state.at c.looked c.source.at
+  pub closed : c.state.closed ≡ true → (item : Given) × (last ≡ Some item) × IsFileEnd item
+  pub unclosed : (item : Given) → last ≡ Some item → IsFileEnd item → c.state.closed ≡ true

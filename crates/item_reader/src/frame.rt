@@ -1,95 +1,94 @@
-//! The records of the frame that is open, and the targets of their links. Each is looked for by plain search.
+//! The frame that is open: a record that joins it, and its end.
 
-ghost use Rattle.std.specs.Prelude.{◌≡◌, IfOk};
-ghost use Rattle.layout_plan.specs.Links.{field_links};
-ghost use Rattle.file_grammar.specs.Structure.{structure_at};
-ghost use Rattle.file_grammar.specs.Record.{has_target, is_loose, values_of, loose_field, first_loose};
-ghost use Rattle.file_grammar.specs.Fault.{has_header};
-ghost use Rattle.item_reader.specs.Reached.{IsSound, IsKept, frame_of};
+ghost use Rattle.std.specs.Prelude.{◌≡◌, ◌<◌, ◌≤◌, ◌+◌, ℕ, List, false, true, length, IfOk, IfErr, None, Some, Err, OnOk};
+ghost use Rattle.link_graph.specs.Graph.{first_loose, graph_of};
+ghost use Rattle.rooted_graph.specs.BreadthOrder.{IsBreadthOrder};
+ghost use Rattle.file_grammar.specs.declared.kind.Kind.TheVariants as variant;
+ghost use Rattle.file_grammar.specs.Kind.{kind_of, is_target_kind};
+ghost use Rattle.file_grammar.specs.declared.reason.Reason.TheVariants as reason;
+ghost use Rattle.file_grammar.specs.MayStand.{frames_limit};
+ghost use Rattle.file_grammar.specs.Record.{first_loose as first_loose_of};
+ghost use Rattle.file_grammar.specs.Fault.{first_of};
+ghost use Rattle.item_reader.specs.Placed.{IsStructureAt};
+ghost use Rattle.item_reader.specs.State.{IsSound, frame_of};
+ghost use Rattle.item_reader.specs.Judged.{InEachFile, later_record_reasons, frame_end_reasons};
 
-use crate::reached::Reached;
-use crate::structure::placed_at;
-use file_grammar::{Kind, kind_of};
-use layout_plan::{FieldLink, push_links};
-use std::alloc::{AllocError, Global};
-use type_text::Link;
+use crate::item::ReadError;
+use crate::state::State;
+use crate::structure::Placed;
+use file_grammar::{FRAMES_LIMIT, Fault, Kind, Reason};
+use layout_plan::link_field;
+use link_graph::{CloseFault, Numbering};
+use std::alloc::Global;
 
-impl Reached {
-    /// Whether a record of the frame is a link's target.
-    pub fn has_target(&self, link: Link) -> bool
-        requires { IsSound self.now }
-        ensures { result ≡ has_target (frame_of self.now) link }
-    {
-        for at in self.frame.as_slice() {
-            let record = placed_at(self.order, self.file.as_slice(), *at);
-            if u16::from(record.class) == link.class && record.instance == link.instance {
-                return true;
-            }
-        }
-        false
-    }
-
-    /// Whether the frame has a FrameH.
-    pub fn has_header(&self) -> bool
-        requires { IsSound self.now }
-        ensures { result ≡ has_header self.now.dictionary (frame_of self.now) }
-    {
-        for at in self.frame.as_slice() {
-            let record = placed_at(self.order, self.file.as_slice(), *at);
-            if kind_of(&self.dictionary, record.class) == Kind::FrameH {
-                return true;
-            }
-        }
-        false
-    }
-
-    /// The place and the field of the frame's first link that is not null and has no target. Each record's links cost one walk over
-    /// its body.
-    pub fn first_loose(&self, alloc: Global) -> Result<Option<(usize, u32)>, AllocError>
-        requires { IsSound self.now }
-        ensures { IfOk result (λ found. found
-            ≡ first_loose self.now.order self.now.dictionary (frame_of self.now) (frame_of self.now)) }
-    {
-        let mut links = Vec::new(alloc);
-        for at in self.frame.as_slice() {
-            if let Some(field) = self.loose_field(*at, &mut links)? {
-                return Ok(Some((*at, field)));
-            }
-        }
-        Ok(None)
-    }
-
-    /// The field of the first such link of the record at a place. `links` is used for the record's links.
-    fn loose_field(&self, at: usize, links: &mut Vec<FieldLink>) -> Result<Option<u32>, AllocError>
+impl State {
+    /// Why a record that is no end record and has no twin in the open frame may not stand in it.
+    pub fn record_fault(&self, placed: Placed, kind: Kind) -> Option<Fault>
         requires sound { IsSound self.now }
-        requires kept { IsKept self.now at }
-        ensures { IfOk result (λ found. found
-            ≡ loose_field (frame_of self.now)
-            (field_links 0 (values_of self.now.order self.now.dictionary
-            (structure_at self.now.order self.now.file.items at)))) }
+        requires open { self.now.numbering ≡ None }
+        requires here { IsStructureAt self.now.at placed }
+        requires kind { kind ≡ kind_of self.now.dictionary placed.class }
+        requires target { is_target_kind kind ≡ true }
+        ensures { (body : List ℕ) → InEachFile self.now placed body
+            (λ h. first_of later_record_reasons h ≡ result) }
     {
-        let record = placed_at(self.order, self.file.as_slice(), at);
-        let Some(plan) = self.plans.plan(record.class) else {
-            return Ok(None);
+        if kind == Kind::FrameH && self.header {
+            return Some(self.fault(Reason::FrameHTwice));
+        }
+        self.place_fault(placed)
+    }
+
+    /// The breadth-first order of the open frame, where it may end here.
+    pub fn close_frame(&self, alloc: Global, placed: Placed) -> Result<Numbering, ReadError>
+        requires sound { IsSound self.now }
+        requires open { self.now.numbering ≡ None }
+        requires here { IsStructureAt self.now.at placed }
+        requires kind { kind_of self.now.dictionary placed.class ≡ variant.FrEndOfFrame }
+        ensures none { (body : List ℕ) → OnOk result (InEachFile self.now placed body
+            (λ h. first_of frame_end_reasons h ≡ None)) }
+        ensures fault { (body : List ℕ) (fault : Fault) → result ≡ Err (ReadError.Fault fault)
+            → InEachFile self.now placed body (λ h. first_of frame_end_reasons h ≡ Some fault) }
+        ensures no_device { result ≡ Err ReadError.Device → ⊥ }
+        ensures order { IfOk result (IsBreadthOrder (graph_of self.now.plans self.now.segment)) }
+        ensures few { OnOk result (self.now.frames < frames_limit) }
+    {
+        if !self.header {
+            return Err(self.fault(Reason::NoFrameH).into());
+        }
+        let numbering = match self.segment.close(alloc, &self.plans) {
+            Ok(numbering) => numbering,
+            Err(CloseFault::LooseLink { node, link }) => {
+                return Err(self.loose_fault(node, link).into());
+            }
+            Err(CloseFault::NoMemory) => return Err(ReadError::NoMemory),
         };
-        links.clear();
-        push_links(plan, self.order, record.body(self.file.as_slice()), links)?;
-        Ok(self.loose_among(links.as_slice()))
+        if let Some(fault) = self.place_fault(placed) {
+            return Err(fault.into());
+        }
+        if self.frames >= FRAMES_LIMIT {
+            return Err(self.fault(Reason::FramesLimit).into());
+        }
+        Ok(numbering)
     }
 
-    /// The field of the first such link of these.
-    fn loose_among(&self, links: &[FieldLink]) -> Option<u32>
-        requires { IsSound self.now }
-        ensures { result ≡ loose_field (frame_of self.now) links.now }
+    /// The fault of the frame's first loose link.
+    fn loose_fault(&self, node: u32, link: u32) -> Fault
+        requires sound { IsSound self.now }
+        requires open { self.now.numbering ≡ None }
+        requires loose { first_loose self.now.plans self.now.segment ≡ Some (node, link) }
+        ensures place { first_loose_of self.now.segment.order self.now.dictionary (frame_of self.now)
+            (frame_of self.now) ≡ Some (result.at, result.field) }
+        ensures reason { result.reason ≡ reason.LooseLink }
     {
-        let loose = links.iter().find(|found| self.is_loose(found.link));
-        loose.map(|found| found.field)
-    }
-
-    fn is_loose(&self, link: Link) -> bool
-        requires { IsSound self.now }
-        ensures { result ≡ is_loose (frame_of self.now) link }
-    {
-        link.class != 0 && !self.has_target(link)
+        let record = self.segment.node(node);
+        let field = match self.plans.plan(record.class) {
+            Some(plan) => link_field(plan, self.order(), self.segment.body(node), link.into()),
+            None => unreachable!(),
+        };
+        Fault {
+            at: record.at,
+            field,
+            reason: Reason::LooseLink,
+        }
     }
 }

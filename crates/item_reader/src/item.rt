@@ -1,7 +1,7 @@
 //! What a reader gives: items one after another, or why there is none.
 
 use file_grammar::Fault;
-use frame_outside::ShelfError;
+use frame_outside::{Failed, ShelfError};
 use std::alloc::AllocError;
 use thiserror::Error;
 
@@ -63,6 +63,17 @@ impl From<AllocError> for ReadError {
 
     fn from(_error: AllocError) -> ReadError {
         ReadError::NoMemory
+    }
+}
+
+impl From<Failed> for ReadError {
+    ghost use Rattle.std.specs.Prelude.{◌≡◌};
+    ghost use Rattle.item_reader.specs.declared.item.ReadError.TheVariants as error;
+
+    ghost from_gives = { λ _ result. result ≡ error.Device };
+
+    fn from(_failed: Failed) -> ReadError {
+        ReadError::Device
     }
 }
 

@@ -1,16 +1,19 @@
-//! A file's items one after another, and its first fault.
+//! A file's items one after another, and its first fault: the reader, which holds one frame at a time.
 #![tactic(auto)]
 
-mod described;
+mod cursor;
+mod entries;
 mod frame;
 mod item;
-mod judge;
-mod reached;
+mod looked;
+mod opening;
 mod reader;
+mod roles;
+mod rules;
+mod state;
+mod steps;
 mod structure;
-mod taking;
-mod whole_file;
 
+pub use file_grammar::{Fault, Reason};
 pub use item::{Item, ReadError};
 pub use reader::ItemReader;
-pub use file_grammar::{Fault, Reason};
