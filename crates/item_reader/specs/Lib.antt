@@ -7,4 +7,5 @@ pub mod Placed
 pub mod State
 pub mod Judged
 pub mod Entries
+pub mod Cursor
 pub mod Errors

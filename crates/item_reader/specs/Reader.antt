@@ -20,9 +20,8 @@ use Rattle.item_reader.specs.declared.item.Item.{Item as Given}
 use Rattle.item_reader.specs.declared.item.Item.TheVariants as given
 use Rattle.item_reader.specs.declared.item.ReadError.{ReadError}
 use Rattle.item_reader.specs.declared.looked.Looked.{Looked}
-use Rattle.item_reader.specs.declared.cursor.Cursor.{Cursor}
-use Rattle.item_reader.specs.Looked.{ReadsTo, IsLooked, look, IsWithinLook}
-use Rattle.item_reader.specs.State.{IsSound, bodied_of}
+use Rattle.item_reader.specs.Looked.{IsLooked, look}
+use Rattle.item_reader.specs.State.{bodied_of}
 use Rattle.item_reader.specs.Given.{Tells, body_after}
 
 -- What callers know of a reader: where it stands in the file, the byte order, what stands before the place that it has
@@ -78,14 +77,6 @@ pub record Reads (outside : Outside) (r : Reader) : Type 0 where
   pub stands : Stands outside r.position
   pub read : r.error ≡ None → Told (file_of outside r.position.slot) (λ file. HasRead file r)
 
--- what the reader knows after an item
-pub record Goes (file : List ℕ) (old : Reader) (item : Given) (new : Reader) : Type 0 where
-  pub taken : Item
-  pub stands : MayStand old.order file old.before taken
-  pub tells : Tells (record { order = old.order; file = file; before = old.before }) taken item
-  pub before : new.before ≡ after old.order old.before taken
-  pub body : new.body ≡ body_after (record { order = old.order; file = file; before = old.before }) taken
-
 -- the reader has given all items of the file, which is well-formed
 abbrev pub HasEnded : List ℕ → Reader → Type 0
 HasEnded file r = (items : List Item) × IsWellFormed file r.order items r.before
@@ -121,12 +112,24 @@ pub record IsEndedFrame (order : Order) (before : Before) (end_is : Structure) (
   pub breadth : (plans : Layouts) → ((class : ℕ) → plan_of plans class ≡ layout_in before.dictionary class)
       → IsBreadthOrder (graph_of plans segment) numbers
 
--- What is collected after an item: at the end of a frame that frame, else the frame that is open.
-abbrev pub Collects : List ℕ → Reader → Given → Reader → Type 0
-Collects file old (given.FrameEnd at class) new =
-    IsEndedFrame old.order old.before
-    (structure (record { order = old.order; file = file; before = old.before })) new.numbering new.segment
-Collects file old item new = IsFrameOf new.order new.before new.segment × (new.numbering ≡ None)
+-- What is collected after an item that stood there: at the end of a frame that frame, else the frame that is open.
+abbrev pub Collects : Here → Given → Before → Option (List ℕ) → Collected → Type 0
+Collects h (given.FrameEnd at class) after numbering segment =
+    IsEndedFrame h.order h.before (structure h) numbering segment
+Collects h item after numbering segment = IsFrameOf h.order after segment × (numbering ≡ None)
+
+-- the place that a reader has reached, in a file
+abbrev pub here_of : List ℕ → Reader → Here
+here_of file r = record { order = r.order; file = file; before = r.before }
+
+-- what the reader knows after an item
+pub record Goes (file : List ℕ) (old : Reader) (item : Given) (new : Reader) : Type 0 where
+  pub taken : Item
+  pub stands : MayStand old.order file old.before taken
+  pub tells : Tells (here_of file old) taken item
+  pub before : new.before ≡ after old.order old.before taken
+  pub body : new.body ≡ body_after (here_of file old) taken
+  pub frame : Collects (here_of file old) item new.before new.numbering new.segment
 
 -- ---- what was drawn
 
@@ -143,23 +146,3 @@ abbrev pub ReadersReadNoFurther : Type 0
 ReadersReadNoFurther =
     (outside : Outside) (r : Reader) → Reads outside r → r.error ≡ None
     → Told (file_of outside r.position.slot) (λ file. DrawsNoFurther file r)
-
--- ---- of the inside
-
--- the body that is lent after an item: a record's stands in the segment, that of a table or of the file's end apart
-abbrev pub body_in : Option Given → List ℕ → Collected → List ℕ
-body_in None own segment = []
-body_in (Some (given.Entry at class changed)) own segment = []
-body_in (Some (given.Plain at class instance node)) own segment =
-    option_map_or (λ (r : Bodied). r.body) (slice_get segment.nodes node) []
-body_in (Some (given.FrameEnd at class)) own segment = option_map_or (λ (r : Bodied). r.body) segment.end_record []
-body_in (Some (given.Table at class length)) own segment = own
-body_in (Some (given.FileEnd at class length seek)) own segment = own
-
--- What a reader keeps while there was no error.
-pub record Keeps (c : Cursor) (last : Option Given) : Type 0 where
-  pub sound : IsSound c.state
-  pub pending : c.state.segment.pending ≡ []
-  pub read : ReadsTo c.state.at c.looked c.source.at
-  pub closed : c.state.closed ≡ true → (item : Given) × (last ≡ Some item) × IsFileEnd item
-  pub unclosed : (item : Given) → last ≡ Some item → IsFileEnd item → c.state.closed ≡ true

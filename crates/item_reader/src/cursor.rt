@@ -1,8 +1,20 @@
 //! Where a reader stands in its file, and the next item there: the structure at the place is read as far as it is
 //! asked for, judged, and taken.
 
-ghost use Rattle.std.specs.Prelude.{◌≡◌, ◌-◌};
-ghost use Rattle.item_reader.specs.Placed.{IsStructureAt};
+ghost use Rattle.std.specs.Prelude.{◌≡◌, ◌+◌, ◌-◌, ◌<◌, ◌≤◌, ◌⊎◌, ℕ, true, None, Some, Err, length, IfOk, OnOk, OnErr, IsOk};
+ghost use Rattle.frame_outside.specs.Counts.{Rose};
+ghost use Rattle.structure_source.specs.declared.source.Head.TheVariants as head;
+ghost use Rattle.structure_source.specs.Source.{Stands, GoesOn, IsHead, drawn};
+ghost use Rattle.file_grammar.specs.declared.fault.Fault.{Fault};
+ghost use Rattle.file_grammar.specs.declared.kind.Kind.TheVariants as variant;
+ghost use Rattle.file_grammar.specs.Structure.{record_limit};
+ghost use Rattle.file_grammar.specs.Kind.{kind_of, is_frame_kind};
+ghost use Rattle.file_grammar.specs.Fault.{fault_here};
+ghost use Rattle.item_reader.specs.Placed.{IsStructureAt, IsPlaced, StandsIn};
+ghost use Rattle.item_reader.specs.Looked.{ReadsTo, IsWithinLook, look};
+ghost use Rattle.item_reader.specs.Judged.{IsKept, ClosesBy};
+ghost use Rattle.item_reader.specs.State.{IsSound, before_of};
+ghost use Rattle.item_reader.specs.Cursor.{IsReady, HasPassed, InFile, GivesNext};
 
 use crate::entries::{Run, begun_entry, read_run};
 use crate::item::{Item, ReadError};
@@ -27,9 +39,23 @@ pub struct Cursor {
 
 impl Cursor {
     /// Takes the item at the place reached, or answers the fault there.
-    pub fn advance<S: Shelf>(&mut self, shelf: &mut S) -> Result<Item, ReadError> {
+    pub fn advance<S: Shelf>(&mut self, shelf: &mut S) -> Result<Item, ReadError>
+        requires { IsReady (S.outside shelf.old) self.old }
+        ensures answers { InFile (S.outside shelf.old) self.old (λ h. GivesNext h result self.new) }
+        ensures kept { OnOk result (IsKept self.old.state self.new.state) }
+        ensures moved { OnOk result (self.old.state.at < self.new.state.at) }
+        ensures read { OnOk result (ReadsTo self.new.state.at self.new.looked self.new.source.at) }
+        ensures closed { IfOk result (λ item. ClosesBy item self.new.state.closed) }
+        ensures device { result ≡ Err ReadError.Device
+            → Rose (S.outside shelf.old).faults (S.outside shelf.new).faults }
+        ensures order { self.new.state.segment.order ≡ self.old.state.segment.order }
+        ensures stands { Stands (S.outside shelf.new) self.new.source }
+        ensures on { GoesOn (S.outside shelf.old) (S.outside shelf.new) self.old.source self.new.source }
+        ensures ahead { OnErr result (InFile (S.outside shelf.old) self.old
+            (λ h. IsWithinLook h.order h.file h.before.place (drawn self.new.source))) }
+    {
         self.state.open_frame();
-        let common = self.look(shelf)?;
+        let common = self.head(shelf)?;
         if let Some(reason) = size_reason(common.length) {
             return Err(self.state.fault(reason).into());
         }
@@ -44,7 +70,22 @@ impl Cursor {
     }
 
     /// The 14 bytes at the place reached.
-    fn look<S: Shelf>(&mut self, shelf: &mut S) -> Result<Common, ReadError> {
+    fn head<S: Shelf>(&mut self, shelf: &mut S) -> Result<Common, ReadError>
+        requires { IsReady (S.outside shelf.old) self.old }
+        ensures head { IfOk result (λ common. InFile (S.outside shelf.old) self.old
+            (λ h. IsHead h.order h.file h.before.place (head.Whole common))) }
+        ensures fault { (fault : Fault) → result ≡ Err (ReadError.Fault fault)
+            → InFile (S.outside shelf.old) self.old (λ h. fault_here h ≡ Some fault) }
+        ensures place { OnOk result (self.new.source.at ≡ self.old.state.at + 14) }
+        ensures looked { OnOk result (self.new.looked ≡ Looked.Nothing) }
+        ensures rest { self.new ≡ record self.old { source = self.new.source; looked = self.new.looked } }
+        ensures device { result ≡ Err ReadError.Device
+            → Rose (S.outside shelf.old).faults (S.outside shelf.new).faults }
+        ensures stands { Stands (S.outside shelf.new) self.new.source }
+        ensures on { GoesOn (S.outside shelf.old) (S.outside shelf.new) self.old.source self.new.source }
+        ensures ahead { InFile (S.outside shelf.old) self.old
+            (λ h. drawn self.new.source ≤ look h.order h.file h.before.place) }
+    {
         match self.looked {
             Looked::Seen(common) => {
                 self.looked = Looked::Nothing;
@@ -61,7 +102,22 @@ impl Cursor {
     }
 
     /// Takes an FrSH with its run of FrSEs.
-    fn take_entry<S: Shelf>(&mut self, shelf: &mut S, head: Placed) -> Result<Item, ReadError> {
+    fn take_entry<S: Shelf>(&mut self, shelf: &mut S, head: Placed) -> Result<Item, ReadError>
+        requires passed { HasPassed (S.outside shelf.old) self.old head }
+        requires kind { kind_of self.old.state.dictionary head.class ≡ variant.FrSH }
+        ensures answers { InFile (S.outside shelf.old) self.old (λ h. GivesNext h result self.new) }
+        ensures kept { OnOk result (IsKept self.old.state self.new.state) }
+        ensures moved { OnOk result (self.old.state.at < self.new.state.at) }
+        ensures read { OnOk result (ReadsTo self.new.state.at self.new.looked self.new.source.at) }
+        ensures closed { IfOk result (λ item. ClosesBy item self.new.state.closed) }
+        ensures device { result ≡ Err ReadError.Device
+            → Rose (S.outside shelf.old).faults (S.outside shelf.new).faults }
+        ensures order { self.new.state.segment.order ≡ self.old.state.segment.order }
+        ensures stands { Stands (S.outside shelf.new) self.new.source }
+        ensures on { GoesOn (S.outside shelf.old) (S.outside shelf.new) self.old.source self.new.source }
+        ensures ahead { OnErr result (InFile (S.outside shelf.old) self.old
+            (λ h. IsWithinLook h.order h.file h.before.place (drawn self.new.source))) }
+    {
         self.bring_own(shelf, head)?;
         let alloc = *self.own.allocator();
         let order = self.state.order();
@@ -91,7 +147,19 @@ impl Cursor {
         &mut self,
         shelf: &mut S,
         element: Placed,
-    ) -> Result<Item, ReadError> {
+    ) -> Result<Item, ReadError>
+        requires passed { HasPassed (S.outside shelf.old) self.old element }
+        requires kind { kind_of self.old.state.dictionary element.class ≡ variant.FrSE }
+        ensures answers { InFile (S.outside shelf.old) self.old (λ h. GivesNext h result self.new) }
+        ensures never { IsOk result → ⊥ }
+        ensures device { result ≡ Err ReadError.Device
+            → Rose (S.outside shelf.old).faults (S.outside shelf.new).faults }
+        ensures order { self.new.state.segment.order ≡ self.old.state.segment.order }
+        ensures stands { Stands (S.outside shelf.new) self.new.source }
+        ensures on { GoesOn (S.outside shelf.old) (S.outside shelf.new) self.old.source self.new.source }
+        ensures ahead { OnErr result (InFile (S.outside shelf.old) self.old
+            (λ h. IsWithinLook h.order h.file h.before.place (drawn self.new.source))) }
+    {
         self.bring_own(shelf, element)?;
         Err(self
             .state
@@ -100,7 +168,22 @@ impl Cursor {
     }
 
     /// Takes a contents table. Its body is kept where its layout is readable, and never judged.
-    fn take_table<S: Shelf>(&mut self, shelf: &mut S, table: Placed) -> Result<Item, ReadError> {
+    fn take_table<S: Shelf>(&mut self, shelf: &mut S, table: Placed) -> Result<Item, ReadError>
+        requires passed { HasPassed (S.outside shelf.old) self.old table }
+        requires kind { kind_of self.old.state.dictionary table.class ≡ variant.FrTOC }
+        ensures answers { InFile (S.outside shelf.old) self.old (λ h. GivesNext h result self.new) }
+        ensures kept { OnOk result (IsKept self.old.state self.new.state) }
+        ensures moved { OnOk result (self.old.state.at < self.new.state.at) }
+        ensures read { OnOk result (ReadsTo self.new.state.at self.new.looked self.new.source.at) }
+        ensures closed { IfOk result (λ item. ClosesBy item self.new.state.closed) }
+        ensures device { result ≡ Err ReadError.Device
+            → Rose (S.outside shelf.old).faults (S.outside shelf.new).faults }
+        ensures order { self.new.state.segment.order ≡ self.old.state.segment.order }
+        ensures stands { Stands (S.outside shelf.new) self.new.source }
+        ensures on { GoesOn (S.outside shelf.old) (S.outside shelf.new) self.old.source self.new.source }
+        ensures ahead { OnErr result (InFile (S.outside shelf.old) self.old
+            (λ h. IsWithinLook h.order h.file h.before.place (drawn self.new.source))) }
+    {
         if let Some(fault) = self.state.table_fault(table) {
             return Err(self.pass_over(shelf, table, fault));
         }
@@ -114,7 +197,22 @@ impl Cursor {
     }
 
     /// Takes the end of the file, where no byte stands after it.
-    fn take_file_end<S: Shelf>(&mut self, shelf: &mut S, end: Placed) -> Result<Item, ReadError> {
+    fn take_file_end<S: Shelf>(&mut self, shelf: &mut S, end: Placed) -> Result<Item, ReadError>
+        requires passed { HasPassed (S.outside shelf.old) self.old end }
+        requires kind { kind_of self.old.state.dictionary end.class ≡ variant.FrEndOfFile }
+        ensures answers { InFile (S.outside shelf.old) self.old (λ h. GivesNext h result self.new) }
+        ensures kept { OnOk result (IsKept self.old.state self.new.state) }
+        ensures moved { OnOk result (self.old.state.at < self.new.state.at) }
+        ensures read { OnOk result (ReadsTo self.new.state.at self.new.looked self.new.source.at) }
+        ensures closed { IfOk result (λ item. ClosesBy item self.new.state.closed) }
+        ensures device { result ≡ Err ReadError.Device
+            → Rose (S.outside shelf.old).faults (S.outside shelf.new).faults }
+        ensures order { self.new.state.segment.order ≡ self.old.state.segment.order }
+        ensures stands { Stands (S.outside shelf.new) self.new.source }
+        ensures on { GoesOn (S.outside shelf.old) (S.outside shelf.new) self.old.source self.new.source }
+        ensures ahead { OnErr result (InFile (S.outside shelf.old) self.old
+            (λ h. IsWithinLook h.order h.file h.before.place (drawn self.new.source))) }
+    {
         self.bring_own(shelf, end)?;
         let item = self.state.take_file_end(end, self.own.as_slice())?;
         if self.source.skip(shelf, 1)? {
@@ -129,18 +227,28 @@ impl Cursor {
         shelf: &mut S,
         placed: Placed,
         kind: Kind,
-    ) -> Result<Item, ReadError> {
+    ) -> Result<Item, ReadError>
+        requires passed { HasPassed (S.outside shelf.old) self.old placed }
+        requires kind { kind ≡ kind_of self.old.state.dictionary placed.class }
+        requires record { is_frame_kind kind ≡ true }
+        ensures answers { InFile (S.outside shelf.old) self.old (λ h. GivesNext h result self.new) }
+        ensures kept { OnOk result (IsKept self.old.state self.new.state) }
+        ensures moved { OnOk result (self.old.state.at < self.new.state.at) }
+        ensures read { OnOk result (ReadsTo self.new.state.at self.new.looked self.new.source.at) }
+        ensures closed { IfOk result (λ item. ClosesBy item self.new.state.closed) }
+        ensures device { result ≡ Err ReadError.Device
+            → Rose (S.outside shelf.old).faults (S.outside shelf.new).faults }
+        ensures order { self.new.state.segment.order ≡ self.old.state.segment.order }
+        ensures stands { Stands (S.outside shelf.new) self.new.source }
+        ensures on { GoesOn (S.outside shelf.old) (S.outside shelf.new) self.old.source self.new.source }
+        ensures ahead { OnErr result (InFile (S.outside shelf.old) self.old
+            (λ h. IsWithinLook h.order h.file h.before.place (drawn self.new.source))) }
+    {
         if self.state.is_overfull(placed) {
             let fault = self.state.fault(Reason::FrameLimit);
             return Err(self.pass_over(shelf, placed, fault));
         }
-        let size = body_size(placed);
-        let whole = self
-            .source
-            .bring_body(shelf, &mut self.state.segment, size)?;
-        if !whole {
-            return Err(self.state.fault(Reason::CutRecord).into());
-        }
+        self.bring_body(shelf, placed)?;
         let alloc = *self.own.allocator();
         match kind {
             Kind::FrEndOfFrame => self.state.take_frame_end(alloc, placed),
@@ -148,8 +256,58 @@ impl Cursor {
         }
     }
 
+    /// Brings the body of a record into the segment.
+    fn bring_body<S: Shelf>(&mut self, shelf: &mut S, placed: Placed) -> Result<(), ReadError>
+        requires passed { HasPassed (S.outside shelf.old) self.old placed }
+        requires fits { self.old.state.load + placed.length ≤ record_limit }
+        ensures body { OnOk result (InFile (S.outside shelf.old) self.old (λ h.
+            StandsIn h.order h.before.place placed self.new.state.segment.pending h.file)) }
+        ensures size { OnOk result (placed.length ≡ 14 + length self.new.state.segment.pending) }
+        ensures sound { OnOk result (IsSound self.new.state) }
+        ensures before { before_of self.new.state ≡ before_of self.old.state }
+        ensures segment { (self.new.state.segment.order ≡ self.old.state.segment.order)
+            × (self.new.state.segment.nodes ≡ self.old.state.segment.nodes) }
+        ensures rest { self.new ≡ record self.old {
+          source = self.new.source;
+          state = record self.old.state { segment = self.new.state.segment };
+        } }
+        ensures cut { (fault : Fault) → result ≡ Err (ReadError.Fault fault)
+            → InFile (S.outside shelf.old) self.old (λ h. fault_here h ≡ Some fault) }
+        ensures place { OnOk result (self.new.source.at ≡ self.old.state.at + placed.length) }
+        ensures device { result ≡ Err ReadError.Device
+            → Rose (S.outside shelf.old).faults (S.outside shelf.new).faults }
+        ensures stands { Stands (S.outside shelf.new) self.new.source }
+        ensures on { GoesOn (S.outside shelf.old) (S.outside shelf.new) self.old.source self.new.source }
+        ensures ahead { InFile (S.outside shelf.old) self.old
+            (λ h. drawn self.new.source ≤ look h.order h.file h.before.place) }
+    {
+        let size = body_size(placed);
+        let whole = self
+            .source
+            .bring_body(shelf, &mut self.state.segment, size)?;
+        if !whole {
+            return Err(self.state.fault(Reason::CutRecord).into());
+        }
+        Ok(())
+    }
+
     /// Brings a body that is no frame record's.
-    fn bring_own<S: Shelf>(&mut self, shelf: &mut S, placed: Placed) -> Result<(), ReadError> {
+    fn bring_own<S: Shelf>(&mut self, shelf: &mut S, placed: Placed) -> Result<(), ReadError>
+        requires passed { HasPassed (S.outside shelf.old) self.old placed }
+        ensures body { OnOk result (InFile (S.outside shelf.old) self.old (λ h.
+            StandsIn h.order h.before.place placed self.new.own.items h.file)) }
+        ensures size { OnOk result (placed.length ≡ 14 + length self.new.own.items) }
+        ensures rest { self.new ≡ record self.old { source = self.new.source; own = self.new.own } }
+        ensures cut { (fault : Fault) → result ≡ Err (ReadError.Fault fault)
+            → InFile (S.outside shelf.old) self.old (λ h. fault_here h ≡ Some fault) }
+        ensures place { OnOk result (self.new.source.at ≡ self.old.state.at + placed.length) }
+        ensures device { result ≡ Err ReadError.Device
+            → Rose (S.outside shelf.old).faults (S.outside shelf.new).faults }
+        ensures stands { Stands (S.outside shelf.new) self.new.source }
+        ensures on { GoesOn (S.outside shelf.old) (S.outside shelf.new) self.old.source self.new.source }
+        ensures ahead { InFile (S.outside shelf.old) self.old
+            (λ h. drawn self.new.source ≤ look h.order h.file h.before.place) }
+    {
         self.own.clear();
         let size = body_size(placed);
         if !self.source.bring_bytes(shelf, &mut self.own, size)? {
@@ -159,7 +317,21 @@ impl Cursor {
     }
 
     /// Passes over a body.
-    fn pass<S: Shelf>(&mut self, shelf: &mut S, placed: Placed) -> Result<(), ReadError> {
+    fn pass<S: Shelf>(&mut self, shelf: &mut S, placed: Placed) -> Result<(), ReadError>
+        requires passed { HasPassed (S.outside shelf.old) self.old placed }
+        ensures whole { OnOk result (InFile (S.outside shelf.old) self.old (λ h.
+            IsPlaced h.order h.file h.before.place placed)) }
+        ensures rest { self.new ≡ record self.old { source = self.new.source } }
+        ensures cut { (fault : Fault) → result ≡ Err (ReadError.Fault fault)
+            → InFile (S.outside shelf.old) self.old (λ h. fault_here h ≡ Some fault) }
+        ensures place { OnOk result (self.new.source.at ≡ self.old.state.at + placed.length) }
+        ensures device { result ≡ Err ReadError.Device
+            → Rose (S.outside shelf.old).faults (S.outside shelf.new).faults }
+        ensures stands { Stands (S.outside shelf.new) self.new.source }
+        ensures on { GoesOn (S.outside shelf.old) (S.outside shelf.new) self.old.source self.new.source }
+        ensures ahead { InFile (S.outside shelf.old) self.old
+            (λ h. drawn self.new.source ≤ look h.order h.file h.before.place) }
+    {
         if !self.source.skip(shelf, body_size(placed))? {
             return Err(self.state.fault(Reason::CutRecord).into());
         }
@@ -167,7 +339,19 @@ impl Cursor {
     }
 
     /// The error of a structure of which its head tells a fault: that fault, where the structure is whole.
-    fn pass_over<S: Shelf>(&mut self, shelf: &mut S, placed: Placed, fault: Fault) -> ReadError {
+    fn pass_over<S: Shelf>(&mut self, shelf: &mut S, placed: Placed, fault: Fault) -> ReadError
+        requires passed { HasPassed (S.outside shelf.old) self.old placed }
+        ensures fault { (other : Fault) → result ≡ ReadError.Fault other
+            → InFile (S.outside shelf.old) self.old (λ h. (fault_here h ≡ Some other)
+            ⊎ ((other ≡ fault) × IsPlaced h.order h.file h.before.place placed)) }
+        ensures rest { self.new ≡ record self.old { source = self.new.source } }
+        ensures device { result ≡ ReadError.Device
+            → Rose (S.outside shelf.old).faults (S.outside shelf.new).faults }
+        ensures stands { Stands (S.outside shelf.new) self.new.source }
+        ensures on { GoesOn (S.outside shelf.old) (S.outside shelf.new) self.old.source self.new.source }
+        ensures ahead { InFile (S.outside shelf.old) self.old
+            (λ h. drawn self.new.source ≤ look h.order h.file h.before.place) }
+    {
         match self.pass(shelf, placed) {
             Ok(()) => fault.into(),
             Err(error) => error,

@@ -14,7 +14,7 @@ ghost use Rattle.file_grammar.specs.Structure.{file_limit};
 ghost use Rattle.file_grammar.specs.Item.{nothing_yet};
 ghost use Rattle.file_grammar.specs.Fault.{IsFirstFault, IsHeaderFault};
 ghost use Rattle.item_reader.specs.Looked.{IsWithinLook};
-ghost use Rattle.item_reader.specs.Reader.{file_of, Reads, Goes, HasEnded, IsFileEnd, IsFrameEnd, Faults, Collects};
+ghost use Rattle.item_reader.specs.Reader.{file_of, Reads, Goes, HasEnded, IsFileEnd, IsFrameEnd, Faults};
 
 use crate::cursor::Cursor;
 use crate::item::{Item, ReadError};
@@ -47,7 +47,8 @@ pub struct ItemReader {
 impl Model for ItemReader {
     ghost use Rattle.std.specs.Prelude.{◌≡◌, None};
     ghost use Rattle.item_reader.specs.State.{before_of};
-    ghost use Rattle.item_reader.specs.Reader.{Reader, Keeps, body_in};
+    ghost use Rattle.item_reader.specs.Reader.{Reader};
+    ghost use Rattle.item_reader.specs.Cursor.{Keeps, body_in};
 
     ghost Value = { Reader };
 
@@ -126,9 +127,6 @@ impl ItemReader {
             → self.new.before.place ≤ file_limit) }
         ensures end { IfOk result (λ item. IsFileEnd item
             → Told (file_of (S.outside shelf.old) self.old.position.slot) (λ file. HasEnded file self.new)) }
-        ensures frame { IfOk result (λ item. self.old.before.closed ≡ false
-            → Told (file_of (S.outside shelf.old) self.old.position.slot)
-            (λ file. Collects file self.old item self.new)) }
         ensures fault { (fault : Fault) → result ≡ Err (ReadError.Fault fault) → self.old.error ≡ None
             → Told (file_of (S.outside shelf.old) self.old.position.slot) (λ file. IsFirstFault file fault) }
         ensures at { (fault : Fault) → result ≡ Err (ReadError.Fault fault) → self.old.error ≡ None
