@@ -1,3 +1,4 @@
 pub mod Growing
 pub mod Located
 pub mod Parts
+pub mod Passing
