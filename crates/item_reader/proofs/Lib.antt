@@ -2,3 +2,4 @@ pub mod Growing
 pub mod Located
 pub mod Parts
 pub mod Passing
+pub mod Giving
