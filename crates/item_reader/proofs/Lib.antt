@@ -1,3 +1,4 @@
+pub mod FrameLinks
 pub mod Growing
 pub mod Located
 pub mod Parts
