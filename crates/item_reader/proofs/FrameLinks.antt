@@ -1,6 +1,6 @@
 -- The links of the records of a frame: what a segment tells of them, and what the structures do.
-use Rattle.std.proofs.Common.{◌≡◌, ℕ, zero, suc, ◌+◌, ◌<◌, Bool, true, false, not, ◌&&◌, cond, List, [], ◌∷◌, length, map}
-use Rattle.std.proofs.Common.{get_or, is_none, Option, Some, None, refl, sym, ap, ◌∙◌, subst, arith}
+use Rattle.std.proofs.Common.{◌≡◌, ℕ, suc, ◌+◌, ◌<◌, Bool, true, false, not, ◌&&◌, cond, List, [], ◌∷◌}
+use Rattle.std.proofs.Common.{length, map, get_or, is_none, Option, Some, None, refl, sym, ap, ◌∙◌, subst, arith}
 use Rattle.std.specs.Prelude.{◌==◌, nat_lt, option_and_then, find, position, slice_get, is_some, IsSome, All}
 use Rattle.std.specs.Option.{option_map, option_map_or}
 use Rattle.std.specs.Result.{result_ok}
@@ -9,14 +9,14 @@ use Rattle.std.proofs.lemmas.Bool.{false≢true, ltb-true, ltb-false}
 use Rattle.std.proofs.lemmas.Iterator.Adapters.{position_from-zero}
 use Rattle.std.proofs.lemmas.List.{length-map}
 use Rattle.std.proofs.lemmas.List.Folds.{find_at}
-use Rattle.std.proofs.lemmas.Option.{none-some, same_Some, slice_get_past, slice_get_within, get_or_from_slice_get}
+use Rattle.std.proofs.lemmas.Option.{none-some, same_Some, slice_get_past, slice_get_within}
+use Rattle.std.proofs.lemmas.Option.{get_or_from_slice_get}
 use Rattle.scalar_types.specs.declared.Order.{Order}
 use Rattle.type_text.specs.declared.types.Link.{Link}
 use Rattle.record_values.specs.declared.values.Value.{Value}
 use Rattle.record_values.specs.Links.{links_in}
 use Rattle.dictionary.specs.declared.entries.Entry.{Entry}
 use Rattle.layout_plan.specs.declared.fields.Field.{Field}
-use Rattle.layout_plan.specs.declared.faults.BodyFault.{BodyFault}
 use Rattle.layout_plan.specs.declared.links.FieldLink.{FieldLink}
 use Rattle.layout_plan.specs.Body.{IsBody}
 use Rattle.layout_plan.specs.Reading.{body_in}
@@ -29,8 +29,8 @@ use Rattle.link_graph.specs.Collected.{Bodied, place_of, is_named}
 use Rattle.link_graph.specs.Graph.{Layouts, ReadsBy, link_in, links_of, loose_from}
 use Rattle.link_graph.specs.Graph.{is_loose as is_loose_link}
 use Rattle.file_grammar.specs.Structure.{Structure}
-use Rattle.file_grammar.specs.Record.{Reading, layout_in, reading_by, reading_of, values_of, is_target, has_target}
-use Rattle.file_grammar.specs.Record.{is_loose, loose_field, first_loose}
+use Rattle.file_grammar.specs.Record.{Reading, layout_in, reading_by, reading_of, values_of, is_target}
+use Rattle.file_grammar.specs.Record.{has_target, is_loose, first_loose}
 use Rattle.file_grammar.proofs.Bodies.{reading-found}
 use Rattle.file_grammar.proofs.Weights.{layout-sound}
 use Rattle.item_reader.specs.State.{structure_of, IsRecord}
@@ -70,7 +70,8 @@ position-map {X} q f xs =
 -- a record is found by its number exactly where it is found among the structures
 is_some-place : (nodes : List Bodied) (link : Link)
     → is_some (place_of nodes link) ≡ has_target (map structure_of nodes) link
-is_some-place nodes link = ap is_some (position_from-zero (λ (r : Bodied). is_named link r.node) nodes) ∙ from 0 nodes
+is_some-place nodes link =
+    ap is_some (position_from-zero (λ (r : Bodied). is_named link r.node) nodes) ∙ from 0 nodes
   where
     from : (n : ℕ) (rs : List Bodied) → is_some (position_from (λ (r : Bodied). is_named link r.node) n rs)
         ≡ has_target (map structure_of rs) link
@@ -113,7 +114,7 @@ links-same plans order held r same =
     read : (fields : List Field) (found : Option (List Value × List ℕ))
         → option_map_or (λ (found : List Value × List ℕ). links_in found.0) found []
         ≡ links_in (option_map_or (λ (reading : Reading). reading.values)
-        (option_map (λ (found : List Value × List ℕ). record { fields = fields; values = found.0; tail = found.1 })
+        (option_map (λ (x : List Value × List ℕ). record { fields = fields; values = x.0; tail = x.1 })
         found) [])
     read fields None = refl
     read fields (Some found) = refl
@@ -130,23 +131,25 @@ links-same plans order held r same =
 record-tells : (plans : Layouts) (order : Order) (held : List Entry) (nodes : List Bodied) (r : Bodied)
     → plan_of plans r.node.class ≡ layout_in held r.node.class
     → Tells (λ (found : FieldLink). is_loose (map structure_of nodes) found.link)
-    (field_links 0 (values_of order held (structure_of r))) (position (is_loose_link nodes) (links_of plans order r))
+    (field_links 0 (values_of order held (structure_of r)))
+    (position (is_loose_link nodes) (links_of plans order r))
 record-tells plans order held nodes r same =
     let values = values_of order held (structure_of r) in
     let links : List FieldLink = field_links 0 values in
     let test : FieldLink → Bool = λ found. is_loose (map structure_of nodes) found.link in
     let number : position (is_loose_link nodes) (links_of plans order r) ≡ position test links =
-    ap (position (is_loose_link nodes)) (links-same plans order held r same ∙ sym (field_links-links 0 values))
+    ap (position (is_loose_link nodes)) (links-same plans order held r same
+    ∙ sym (field_links-links 0 values))
     ∙ position-map (is_loose_link nodes) link_in links
     ∙ (λ i. position (λ (found : FieldLink). loose-same nodes found.link i) links) in
     subst (Tells test links) (sym number) (position-tells test links)
 
 -- ---- the first loose link of records
 
--- It is the link of number k of the record of a number, where the records are numbered from n: the first of them is in
--- the field where that link stands.
-pub record IsFirstLoose (order : Order) (held : List Entry) (frame : List Structure) (n : ℕ) (records : List Bodied)
-    (node k : ℕ) : Type 0 where
+-- It is the link of number k of the record of a number, where the records are numbered from n: the first of
+-- them is in the field where that link stands.
+pub record IsFirstLoose (order : Order) (held : List Entry) (frame : List Structure) (n : ℕ)
+    (records : List Bodied) (node k : ℕ) : Type 0 where
   pub r : Bodied
   pub before : ℕ
   pub number : node ≡ n + before
@@ -163,8 +166,8 @@ FirstTells order held frame n records None = first_loose order held frame (map s
 FirstTells order held frame n records (Some z) = IsFirstLoose order held frame n records z.0 z.1
 
 -- one record more at the front
-first-step : (order : Order) (held : List Entry) (frame : List Structure) (n : ℕ) (r : Bodied) (rs : List Bodied)
-    (o : Option ℕ) (rest : Option (ℕ × ℕ)) → Tells (λ (found : FieldLink). is_loose frame found.link)
+first-step : (order : Order) (held : List Entry) (frame : List Structure) (n : ℕ) (r : Bodied)
+    (rs : List Bodied) (o : Option ℕ) (rest : Option (ℕ × ℕ)) → Tells (λ (found : FieldLink). is_loose frame found.link)
     (field_links 0 (values_of order held (structure_of r))) o → FirstTells order held frame (n + 1) rs rest
     → FirstTells order held frame n (r ∷ rs) (option_map_or (λ k. Some (n, k)) o rest)
 first-step order held frame n r rs o rest here more = by o here
@@ -174,11 +177,12 @@ first-step order held frame n r rs o rest here more = by o here
 
     whole : Option FieldLink → Option (ℕ × ℕ)
     whole found =
-        option_map_or (λ (field : ℕ). Some (r.node.at, field)) (option_map (λ (l : FieldLink). l.field) found) others
+        option_map_or (λ (field : ℕ). Some (r.node.at, field)) (option_map (λ (l : FieldLink). l.field) found)
+        others
 
     later : (rest : Option (ℕ × ℕ)) → find (λ (found : FieldLink). is_loose frame found.link)
-        (field_links 0 (values_of order held (structure_of r))) ≡ None → FirstTells order held frame (n + 1) rs rest
-        → FirstTells order held frame n (r ∷ rs) rest
+        (field_links 0 (values_of order held (structure_of r))) ≡ None
+        → FirstTells order held frame (n + 1) rs rest → FirstTells order held frame n (r ∷ rs) rest
     later None fine m = ap whole fine ∙ m
     later (Some z) fine m =
         let is : z.0 ≡ n + 1 + m.before = m.number in
@@ -213,7 +217,8 @@ first-tells : (plans : Layouts) (order : Order) (held : List Entry) (nodes : Lis
     → FirstTells order held (map structure_of nodes) n rs (loose_from plans order nodes n rs)
 first-tells plans order held nodes same n [] = refl
 first-tells plans order held nodes same n (r ∷ rs) =
-    first-step order held (map structure_of nodes) n r rs (position (is_loose_link nodes) (links_of plans order r))
+    first-step order held (map structure_of nodes) n r rs
+    (position (is_loose_link nodes) (links_of plans order r))
     (loose_from plans order nodes (n + 1) rs)
     (record-tells plans order held nodes r (same r.node.class))
     (first-tells plans order held nodes same (n + 1) rs)
@@ -223,7 +228,8 @@ pub none-loose : (plans : Layouts) (order : Order) (held : List Entry) (nodes : 
     → ((class : ℕ) → plan_of plans class ≡ layout_in held class) → loose_from plans order nodes 0 nodes ≡ None
     → first_loose order held (map structure_of nodes) (map structure_of nodes) ≡ None
 none-loose plans order held nodes same none =
-    subst (FirstTells order held (map structure_of nodes) 0 nodes) none (first-tells plans order held nodes same 0 nodes)
+    subst (FirstTells order held (map structure_of nodes) 0 nodes) none
+    (first-tells plans order held nodes same 0 nodes)
 
 -- and the first of a segment is the frame's
 pub first-loose : (plans : Layouts) (order : Order) (held : List Entry) (nodes : List Bodied)
@@ -231,7 +237,8 @@ pub first-loose : (plans : Layouts) (order : Order) (held : List Entry) (nodes :
     → loose_from plans order nodes 0 nodes ≡ Some (node, k)
     → IsFirstLoose order held (map structure_of nodes) 0 nodes node k
 first-loose plans order held nodes same node k is =
-    subst (FirstTells order held (map structure_of nodes) 0 nodes) is (first-tells plans order held nodes same 0 nodes)
+    subst (FirstTells order held (map structure_of nodes) 0 nodes) is
+    (first-tells plans order held nodes same 0 nodes)
 
 -- ---- what the records of a frame read as
 
@@ -282,9 +289,10 @@ all-read plans order held nodes same records = λ k d lt. reads (get_or nodes k 
 
 -- ---- the record that holds the first loose link
 
--- By its node and its body, as they are asked for: its body has the link, which stands in the field that is told.
-pub record HoldsLoose (order : Order) (held : List Entry) (frame : List Structure) (node : Node) (body : List ℕ) (k : ℕ)
-    : Type 0 where
+-- By its node and its body, as they are asked for: its body has the link, which stands in the field that is
+-- told.
+pub record HoldsLoose (order : Order) (held : List Entry) (frame : List Structure) (node : Node)
+    (body : List ℕ) (k : ℕ) : Type 0 where
   pub fields : List Field
   pub layout : layout_in held node.class ≡ Some fields
   pub values : List Value
@@ -333,9 +341,12 @@ holds-loose order held nodes number k node body records l is_node is_body =
       values = values_of order held (structure_of l.r);
       tail = spelled.tail;
       spelled = spelled.body;
-      within = omega (arith, slice_get_within (field_links 0 (values_of order held (structure_of l.r))) k
-          (record { field = l.field; link = l.link }) l.at,
-          field_links-length (values_of order held (structure_of l.r)));
+      within = omega (
+        arith,
+        slice_get_within (field_links 0 (values_of order held (structure_of l.r))) k
+            (record { field = l.field; link = l.link }) l.at,
+        field_links-length (values_of order held (structure_of l.r)),
+      );
       field = l.field;
       link = l.link;
       at = l.at;
@@ -345,7 +356,8 @@ holds-loose order held nodes number k node body records l is_node is_body =
 -- which has a layout
 pub no-plan : (order : Order) (held : List Entry) (nodes : List Bodied) (number k : ℕ) (node : Node)
     → All (IsRecord order held) nodes → IsFirstLoose order held (map structure_of nodes) 0 nodes number k
-    → option_map (λ (r : Bodied). r.node) (slice_get nodes number) ≡ Some node → layout_in held node.class ≡ None → ⊥
+    → option_map (λ (r : Bodied). r.node) (slice_get nodes number) ≡ Some node
+    → layout_in held node.class ≡ None → ⊥
 no-plan order held nodes number k node records l is_node none =
     let is : number ≡ 0 + l.before = l.number in
     let found : slice_get nodes number ≡ Some l.r = ap (slice_get nodes) (omega (arith, is)) ∙ l.found in
@@ -354,19 +366,20 @@ no-plan order held nodes number k node records l is_node none =
     none-some h.fields (sym none ∙ h.layout)
 
 -- so it has a link of this number
-pub loose-link : (order : Order) (held : List Entry) (frame : List Structure) (node : Node) (body : List ℕ) (k : ℕ)
-    (fields : List Field) → HoldsLoose order held frame node body k → layout_in held node.class ≡ Some fields
+pub loose-link : (order : Order) (held : List Entry) (frame : List Structure) (node : Node) (body : List ℕ)
+    (k : ℕ) (fields : List Field) → HoldsLoose order held frame node body k → layout_in held node.class ≡ Some fields
     → HasLink order fields body k
 loose-link order held frame node body k fields l layout = (
   l.values,
   l.tail,
-  subst (λ fs. IsBody order fs l.values l.tail body) (same_Some l.fields fields (sym l.layout ∙ layout)) l.spelled,
+  subst (λ fs. IsBody order fs l.values l.tail body) (same_Some l.fields fields (sym l.layout ∙ layout))
+      l.spelled,
   l.within,
 )
 
 -- and the field that this is of is the first loose link's
-pub loose-field : (order : Order) (held : List Entry) (frame : List Structure) (node : Node) (body : List ℕ) (k : ℕ)
-    (fields : List Field) (i : ℕ) → HoldsLoose order held frame node body k
+pub loose-field : (order : Order) (held : List Entry) (frame : List Structure) (node : Node) (body : List ℕ)
+    (k : ℕ) (fields : List Field) (i : ℕ) → HoldsLoose order held frame node body k
     → layout_in held node.class ≡ Some fields → HasLinkIn order fields body k i
     → first_loose order held frame frame ≡ Some (node.at, i)
 loose-field order held frame node body k fields i l layout placed =

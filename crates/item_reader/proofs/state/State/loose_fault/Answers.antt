@@ -1,22 +1,28 @@
-use Rattle.std.proofs.Common.{◌≡◌, Some, sym, ap, ◌∙◌, subst}
+use Rattle.std.proofs.Common.{◌≡◌, ℕ, map, Some, sym, ap, ◌∙◌, subst}
 use Rattle.layout_plan.specs.Links.{HasLink, HasLinkIn}
 use Rattle.file_grammar.specs.Record.{first_loose as first_loose_of}
-use Rattle.item_reader.specs.State.{open_records}
-use Rattle.item_reader.proofs.FrameLinks.{first-loose, loose-within, holds-loose, loose-link, loose-field, no-plan}
+use Rattle.link_graph.specs.Graph.{first_loose}
+use Rattle.item_reader.specs.declared.state.State.{State}
+use Rattle.item_reader.specs.State.{IsSound, structure_of, open_records}
+use Rattle.item_reader.proofs.FrameLinks.{IsFirstLoose, first-loose, loose-within, holds-loose, loose-link}
+use Rattle.item_reader.proofs.FrameLinks.{loose-field, no-plan}
 use Rattle.item_reader.proofs.state.State.loose_fault.Goals as goal
+
+-- the first loose link of the segment is one of the frame
+loose : (s : State) → IsSound s → (node k : ℕ) → first_loose s.plans s.segment ≡ Some (node, k)
+    → IsFirstLoose s.segment.order s.dictionary (map structure_of s.segment.nodes) 0 s.segment.nodes node k
+loose s sound node k is = first-loose s.plans s.segment.order s.dictionary s.segment.nodes sound.plans node k is
 
 pub node-record-requires : goal.node-record-requires
 node-record-requires c =
     let s = c.args.self.now in
-    let l = first-loose s.plans s.segment.order s.dictionary s.segment.nodes c.requires.sound.plans c.args.node
-    c.args.link c.requires.loose in
+    let l = loose s c.requires.sound c.args.node c.args.link c.requires.loose in
     loose-within s.segment.order s.dictionary s.segment.nodes c.args.node c.args.link l
 
 pub body-requires : goal.body-requires
 body-requires c =
     let s = c.args.self.now in
-    let l = first-loose s.plans s.segment.order s.dictionary s.segment.nodes c.requires.sound.plans c.args.node
-    c.args.link c.requires.loose in
+    let l = loose s c.requires.sound c.args.node c.args.link c.requires.loose in
     loose-within s.segment.order s.dictionary s.segment.nodes c.args.node c.args.link l
 
 pub link_field-field-requires : goal.link_field-field-requires
@@ -25,8 +31,7 @@ link_field-field-requires c =
     let node = c.node-record.result.now in
     let fields = c.in-Some.plan.now in
     let body = c.body.result.now in
-    let l = first-loose s.plans s.segment.order s.dictionary s.segment.nodes c.requires.sound.plans c.args.node
-    c.args.link c.requires.loose in
+    let l = loose s c.requires.sound c.args.node c.args.link c.requires.loose in
     let h = holds-loose s.segment.order s.dictionary s.segment.nodes c.args.node c.args.link node body
     (c.requires.sound.frame c.requires.«open»).records l c.node-record.ensures c.body.ensures.body in
     subst (λ o. HasLink o fields body c.into.result) (sym c.order.ensures)
@@ -38,8 +43,7 @@ pub unreachable-requires : goal.unreachable-requires
 unreachable-requires c =
     let s = c.args.self.now in
     let node = c.node-record.result.now in
-    let l = first-loose s.plans s.segment.order s.dictionary s.segment.nodes c.requires.sound.plans c.args.node
-    c.args.link c.requires.loose in
+    let l = loose s c.requires.sound c.args.node c.args.link c.requires.loose in
     no-plan s.segment.order s.dictionary s.segment.nodes c.args.node c.args.link node
     (c.requires.sound.frame c.requires.«open»).records l c.node-record.ensures
     (sym (c.in-None.ensures ∙ c.requires.sound.plans node.class))
@@ -51,8 +55,7 @@ returns-clause-place c =
     let fields = c.in-Some.plan.now in
     let body = c.body.result.now in
     let field = c.link_field-field.result in
-    let l = first-loose s.plans s.segment.order s.dictionary s.segment.nodes c.requires.sound.plans c.args.node
-    c.args.link c.requires.loose in
+    let l = loose s c.requires.sound c.args.node c.args.link c.requires.loose in
     let h = holds-loose s.segment.order s.dictionary s.segment.nodes c.args.node c.args.link node body
     (c.requires.sound.frame c.requires.«open»).records l c.node-record.ensures c.body.ensures.body in
     let placed = subst (λ o. HasLinkIn o fields body c.args.link field) c.order.ensures
