@@ -1,3 +1,5 @@
+pub mod FrameLinks
+pub mod FrameParts
 pub mod Growing
 pub mod Located
 pub mod Parts

@@ -1,6 +1,6 @@
 //! The frame that is open: a record that joins it, and its end.
 
-ghost use Rattle.std.specs.Prelude.{◌≡◌, ◌<◌, ◌≤◌, ◌+◌, ℕ, List, false, true, length, IfOk, IfErr, None, Some, Err, OnOk};
+ghost use Rattle.std.specs.Prelude.{◌≡◌, ◌<◌, ℕ, List, true, IfOk, None, Some, Err, OnOk};
 ghost use Rattle.link_graph.specs.Graph.{first_loose, graph_of};
 ghost use Rattle.rooted_graph.specs.BreadthOrder.{IsBreadthOrder};
 ghost use Rattle.file_grammar.specs.declared.kind.Kind.TheVariants as variant;
