@@ -220,14 +220,18 @@ layout-held order held s reads =
       );
     }))
 
+-- the first field of a name, and the number there
+abbrev pub named-in : Order → List Entry → Structure → List ℕ → ℕ × ℕ
+named-in order held s name = (
+  field_named (elements_in held s.class) name,
+  number_named (elements_in held s.class) (values_of order held s) name,
+)
+
 -- the number at the field of a name is the number of that name
 pub number-named : (order : Order) (held : List Entry) (s : Structure) (name : List ℕ) (fs : List Field) (i n : ℕ)
     (e : Element) → Reads order held s → layout_in held s.class ≡ Some fs
     → first_named 0 (elements_in held s.class) name ≡ Some (i, e) → HasNumberAt order fs s.body i n
-    → (i, n) ≡ (
-      field_named (elements_in held s.class) name,
-      number_named (elements_in held s.class) (values_of order held s) name,
-    )
+    → ◌≡◌ {A = ℕ × ℕ} (i, n) (named-in order held s name)
 number-named order held s name fs i n e reads is found told =
     let field : field_named (elements_in held s.class) name ≡ i =
     ap (λ o. option_map_or (λ (found : ℕ × Element). found.0) o 0) found in
