@@ -57,6 +57,11 @@ size-here h p here =
 pub end-here : (h : Here) (p : Placed) → IsPlaced h.order h.file (place h) p → end_of (structure h) ≡ place h + p.length
 end-here h p here = ap (λ n. place h + n) (size-here h p here)
 
+-- the same by the place that it is told
+pub after-here : (h : Here) (p : Placed) → IsPlaced h.order h.file (place h) p
+    → p.at + p.length ≡ end_of (structure h)
+after-here h p here = ap (λ n. n + p.length) here.place ∙ sym (end-here h p here)
+
 -- ---- faults
 
 -- where the file is not closed and does not end, the first reason is the fault

@@ -1,7 +1,7 @@
 -- The numbers that the end of a file tells, where its layout has them.
 use Rattle.std.proofs.Common.{◌≡◌, ℕ, zero, suc, ◌+◌, ◌<◌, ◌≤◌, Bool, true, false, ◌&&◌, cond, List, [], ◌∷◌, ◌++◌}
 use Rattle.std.proofs.Common.{length, Option, Some, None, refl, sym, ap, ◌∙◌, subst, arith}
-use Rattle.std.specs.Prelude.{slice_get, option_and_then, codes}
+use Rattle.std.specs.Prelude.{slice_get, option_and_then, codes, IsSome}
 use Rattle.std.specs.List.{list_all}
 use Rattle.std.specs.Str.{bytes_eq}
 use Rattle.std.specs.Option.{option_map, option_map_or}
@@ -30,6 +30,7 @@ use Rattle.file_grammar.specs.Record.{Reading, layout_in, reading_by, reading_of
 use Rattle.file_grammar.specs.Closing.{is_single, is_any, is_count, is_size, has_named, closes}
 use Rattle.file_grammar.specs.Closing.{field_named, number_named}
 use Rattle.file_grammar.specs.Structure.{Structure}
+use Rattle.item_reader.proofs.BodyHere.{some-reading}
 use Rattle.file_grammar.proofs.Bodies.{reading-found}
 use Rattle.file_grammar.proofs.Weights.{layout-sound}
 
@@ -188,10 +189,6 @@ closes-named es e =
 abbrev pub elements_in : List Entry → ℕ → List Element
 elements_in held class = option_map_or (λ (e : Entry). e.elements) (entry_of held class) []
 
--- the body of a structure reads by the layout of its class
-abbrev pub Reads : Order → List Entry → Structure → Type 0
-Reads order held s = (reading : Reading) × (reading_of order held s ≡ Some reading)
-
 -- a structure's body by the layout of its class
 record HasLayout (order : Order) (held : List Entry) (s : Structure) : Type 0 where
   pub entry : Entry
@@ -202,10 +199,13 @@ record HasLayout (order : Order) (held : List Entry) (s : Structure) : Type 0 wh
   pub elements_are : elements_in held s.class ≡ entry.elements
   pub body : HasBody order fs s.body
 
-layout-held : (order : Order) (held : List Entry) (s : Structure) → Reads order held s → HasLayout order held s
+layout-held : (order : Order) (held : List Entry) (s : Structure) → IsSome (reading_of order held s)
+    → HasLayout order held s
 layout-held order held s reads =
-    option_and_then_some (reading_by order s.body) (layout_in held s.class) reads.0 reads.1 (λ fs is by.
-    option_and_then_some (λ (e : Entry). layout_of e.elements) (entry_of held s.class) fs is (λ entry there layout.
+    let read = some-reading (reading_of order held s) reads in
+    option_and_then_some (reading_by order s.body) (layout_in held s.class) read.0 read.1 (λ fs is by.
+    option_and_then_some (λ (e : Entry). layout_of e.elements) (entry_of held s.class) fs is
+    (λ entry there layout.
     record {
       entry = entry;
       held_is = there;
@@ -214,9 +214,9 @@ layout-held order held s reads =
       layout_is = is;
       elements_are = ap (λ o. option_map_or (λ (e : Entry). e.elements) o []) there;
       body = (
-        reads.0.values,
-        reads.0.tail,
-        reading-found order s.body fs reads.0 (layout-sound held s.class fs is) by,
+        read.0.values,
+        read.0.tail,
+        reading-found order s.body fs read.0 (layout-sound held s.class fs is) by,
       );
     }))
 
@@ -228,22 +228,24 @@ named-in order held s name = (
 )
 
 -- the number at the field of a name is the number of that name
-pub number-named : (order : Order) (held : List Entry) (s : Structure) (name : List ℕ) (fs : List Field) (i n : ℕ)
-    (e : Element) → Reads order held s → layout_in held s.class ≡ Some fs
+pub number-named : (order : Order) (held : List Entry) (s : Structure) (name : List ℕ) (fs : List Field)
+    (i n : ℕ) (e : Element) → IsSome (reading_of order held s) → layout_in held s.class ≡ Some fs
     → first_named 0 (elements_in held s.class) name ≡ Some (i, e) → HasNumberAt order fs s.body i n
     → ◌≡◌ {A = ℕ × ℕ} (i, n) (named-in order held s name)
 number-named order held s name fs i n e reads is found told =
+    let whole = some-reading (reading_of order held s) reads in
     let field : field_named (elements_in held s.class) name ≡ i =
     ap (λ o. option_map_or (λ (found : ℕ × Element). found.0) o 0) found in
-    let read : reading_by order s.body fs ≡ Some reads.0 =
-    sym (ap (option_and_then (reading_by order s.body)) is) ∙ reads.1 in
-    let values : values_of order held s ≡ reads.0.values =
-    ap (λ o. option_map_or (λ (r : Reading). r.values) o []) reads.1 in
-    let value_is : slice_get reads.0.values i ≡ Some (value.Num n) =
-    told reads.0.values reads.0.tail
-    (reading-found order s.body fs reads.0 (layout-sound held s.class fs is) read) in
+    let read : reading_by order s.body fs ≡ Some whole.0 =
+    sym (ap (option_and_then (reading_by order s.body)) is) ∙ whole.1 in
+    let values : values_of order held s ≡ whole.0.values =
+    ap (λ o. option_map_or (λ (r : Reading). r.values) o []) whole.1 in
+    let value_is : slice_get whole.0.values i ≡ Some (value.Num n) =
+    told whole.0.values whole.0.tail
+    (reading-found order s.body fs whole.0 (layout-sound held s.class fs is) read) in
     let number : number_named (elements_in held s.class) (values_of order held s) name ≡ n =
-    (λ j. option_map_or number_of (slice_get (values j) (field j)) 0) ∙ ap (λ o. option_map_or number_of o 0) value_is in
+    (λ j. option_map_or number_of (slice_get (values j) (field j)) 0)
+    ∙ ap (λ o. option_map_or number_of o 0) value_is in
     λ j. (sym field j, sym number j)
 
 -- the field of a name that is found is a number of the body
@@ -253,14 +255,15 @@ pub record IsTold (order : Order) (s : Structure) (fs : List Field) (i : ℕ) : 
   pub small : i < 4096
   pub body : HasBody order fs s.body
 
-pub number-told : (order : Order) (held : List Entry) (s : Structure) (name : List ℕ) (fs : List Field) (i : ℕ)
-    (e : Element) → IsDictionary held → Reads order held s → layout_in held s.class ≡ Some fs
-    → has_named (elements_in held s.class) name is_count ≡ true
+pub number-told : (order : Order) (held : List Entry) (s : Structure) (name : List ℕ) (fs : List Field)
+    (i : ℕ) (e : Element) → IsDictionary held → IsSome (reading_of order held s)
+    → layout_in held s.class ≡ Some fs → has_named (elements_in held s.class) name is_count ≡ true
     → first_named 0 (elements_in held s.class) name ≡ Some (i, e) → IsTold order s fs i
 number-told order held s name fs i e sound reads is passes found =
     let l = layout-held order held s reads in
     let same : l.fs ≡ fs = same_Some l.fs fs (sym l.layout_is ∙ is) in
-    let layout : layout_of (elements_in held s.class) ≡ Some fs = ap layout_of l.elements_are ∙ l.layout ∙ ap Some same in
+    let layout : layout_of (elements_in held s.class) ≡ Some fs =
+    ap layout_of l.elements_are ∙ l.layout ∙ ap Some same in
     let n = numbered (elements_in held s.class) fs name i e layout passes found in
     let few : length (elements_in held s.class) ≤ 4096 =
     subst (λ (es : List Element). length es ≤ 4096) (sym l.elements_are)

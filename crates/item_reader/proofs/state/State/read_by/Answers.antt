@@ -1,4 +1,4 @@
-use Rattle.std.proofs.Common.{◌≡◌, sym, ◌∙◌, subst}
+use Rattle.std.proofs.Common.{sym, subst}
 use Rattle.layout_plan.specs.Body.{IsMeasured}
 use Rattle.item_reader.specs.State.{here_in}
 use Rattle.item_reader.proofs.BodyHere.{body-stands, size-stands}

@@ -1,9 +1,8 @@
 use Rattle.std.proofs.Common.{◌≡◌, [], ◌∷◌, Some, sym, ap, ◌∙◌}
-use Rattle.std.specs.Prelude.{◌==◌}
 use Rattle.std.proofs.lemmas.Bool.{eq-eqb}
 use Rattle.file_grammar.specs.declared.kind.Kind.TheVariants.{FrSE}
 use Rattle.file_grammar.specs.declared.reason.Reason.TheVariants.{StrayElement}
-use Rattle.file_grammar.specs.Fault.{Here, place, here, held, class, kind, fields, fields_by}
+use Rattle.file_grammar.specs.Fault.{place, here, held, class, kind, fields, fields_by}
 use Rattle.file_grammar.specs.Record.{layout_in}
 use Rattle.file_grammar.proofs.Classes.{class-FrSE}
 use Rattle.file_grammar.proofs.Firsts.{first_of-holds}
@@ -41,4 +40,5 @@ returns-in-Err c =
     ∙ ap Some (sym c.requires.sound.built_in.element) in
     fault-kind h p c.requires.open stands.placed
     ∙ element-parts h is
-    ∙ first_of-front body_reasons (StrayElement ∷ []) h c.in-Err.fault (c.in-Err.ensures.fault file stands plan)
+    ∙ first_of-front body_reasons (StrayElement ∷ []) h c.in-Err.fault
+    (c.in-Err.ensures.fault file stands plan)

@@ -1,4 +1,4 @@
-use Rattle.std.proofs.Common.{◌≡◌, false, sym, ap, ◌∙◌}
+use Rattle.std.proofs.Common.{◌≡◌, false, sym, ◌∙◌}
 use Rattle.std.specs.Prelude.{not, ◌&&◌}
 use Rattle.file_grammar.specs.declared.kind.Kind.TheVariants.{FrTOC}
 use Rattle.file_grammar.specs.declared.reason.Reason.TheVariants.{OpenFrame}

@@ -1,7 +1,6 @@
-use Rattle.std.proofs.Common.{◌≡◌, ◌+◌, ◌≤◌, true, Some, ap, sym, ◌∙◌, subst, arith}
+use Rattle.std.proofs.Common.{◌≡◌, true, Some, ap, ◌∙◌, arith}
 use Rattle.file_grammar.specs.Kind.{is_frame_kind}
-use Rattle.file_grammar.specs.Structure.{record_limit}
-use Rattle.file_grammar.specs.Fault.{load, told, kind, first_of}
+use Rattle.file_grammar.specs.Fault.{kind, first_of}
 use Rattle.item_reader.specs.State.{here_in}
 use Rattle.item_reader.specs.Judged.{InEachFile, weighing_reasons}
 use Rattle.item_reader.proofs.Located.{whole-here, told-here, kind-here}
@@ -18,6 +17,7 @@ returns-in_err-measured-clause-fault c =
     c.from_residual.ensures.1 (λ file stands.
     let h = here_in s file in
     let told_is = told-here h p stands.placed in
-    let frame : is_frame_kind (kind h) ≡ true = ap is_frame_kind (kind-here h p stands.placed) ∙ c.requires.kind in
+    let frame : is_frame_kind (kind h) ≡ true =
+    ap is_frame_kind (kind-here h p stands.placed) ∙ c.requires.kind in
     weigh-unread h f (whole-here h p stands.placed) frame (omega (arith, told_is, c.requires.fits))
     (rw c.pending.ensures at c.in_err-measured.ensures.fault file stands))
