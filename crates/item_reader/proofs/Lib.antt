@@ -1,7 +1,9 @@
 pub mod FrameLinks
 pub mod FrameParts
+pub mod BodyHere
 pub mod Growing
 pub mod Located
+pub mod Numbers
 pub mod Parts
 pub mod Passing
 pub mod Giving

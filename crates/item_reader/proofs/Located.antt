@@ -4,7 +4,8 @@ use Rattle.std.specs.Prelude.{◌==◌}
 use Rattle.std.proofs.lemmas.Bool.{ne_eqb}
 use Rattle.item_reader.specs.declared.structure.Placed.{Placed}
 use Rattle.file_grammar.specs.Structure.{Structure, size_of, end_of, record_limit}
-use Rattle.file_grammar.specs.Fault.{Here, place, left, told, class, kind, structure, reasons, first_of, fault_by, fault_here}
+use Rattle.file_grammar.specs.Kind.{kind_of}
+use Rattle.file_grammar.specs.Fault.{Here, place, left, told, held, class, kind, structure, reasons, first_of, fault_by, fault_here}
 use Rattle.file_grammar.specs.Steps.{length_reason, reasons_of}
 use Rattle.item_reader.specs.Placed.{body_of, IsPlaced}
 use Rattle.file_grammar.proofs.Lengths.{Fits, fits-length}
@@ -16,6 +17,9 @@ told-here h p here = sym here.length_is
 
 pub class-here : (h : Here) (p : Placed) → IsPlaced h.order h.file (place h) p → class h ≡ p.class
 class-here h p here = ap (λ (s : Structure). s.class) here.is
+
+pub kind-here : (h : Here) (p : Placed) → IsPlaced h.order h.file (place h) p → kind h ≡ kind_of (held h) p.class
+kind-here h p here = ap (kind_of (held h)) (class-here h p here)
 
 pub instance-here : (h : Here) (p : Placed) → IsPlaced h.order h.file (place h) p → (structure h).instance ≡ p.instance
 instance-here h p here = ap (λ (s : Structure). s.instance) here.is
@@ -52,6 +56,11 @@ size-here h p here =
 
 pub end-here : (h : Here) (p : Placed) → IsPlaced h.order h.file (place h) p → end_of (structure h) ≡ place h + p.length
 end-here h p here = ap (λ n. place h + n) (size-here h p here)
+
+-- the same by the place that it is told
+pub after-here : (h : Here) (p : Placed) → IsPlaced h.order h.file (place h) p
+    → p.at + p.length ≡ end_of (structure h)
+after-here h p here = ap (λ n. n + p.length) here.place ∙ sym (end-here h p here)
 
 -- ---- faults
 

@@ -275,6 +275,16 @@ record-new h target twin header =
 
 -- ---- what the end of a file tells
 
+-- the frames are not as they are told
+pub frames-wrong : (h : Here) → is_file_end_kind (kind h) ≡ true
+    → (number h (codes "nFrames") ≡ h.before.frames → ⊥)
+    → first_of count_reasons h ≡ Some (fault_at FrameCount (place h, field_named (elements h) (codes "nFrames")))
+frames-wrong h end wrong =
+    first_of-holds FrameCount (ByteCount ∷ FileLimit ∷ []) h (place h, field_named (elements h) (codes "nFrames"))
+    (test-FrameCount h end
+    ∙ ap (λ b. here_at h (field_named (elements h) (codes "nFrames")) (not b))
+    (ne_eqb (number h (codes "nFrames")) h.before.frames wrong))
+
 frames-told : (h : Here) → is_file_end_kind (kind h) ≡ true → number h (codes "nFrames") ≡ h.before.frames
     → first_of count_reasons h ≡ first_of (ByteCount ∷ FileLimit ∷ []) h
 frames-told h end frames =
