@@ -1,6 +1,6 @@
 -- What the code judges of a whole structure at the place reached, part by part. Each part is a list of reasons in the
 -- order of their numbers.
-use Rattle.std.specs.Prelude.{◌≡◌, ◌≢◌, ◌↔◌, ℕ, ◌+◌, ◌≤◌, ⊤, IsTrue, Bool, ◌||◌, List, [], ◌∷◌, ◌++◌, length, take}
+use Rattle.std.specs.Prelude.{◌≡◌, ◌≢◌, ◌↔◌, ℕ, ◌+◌, ◌≤◌, ⊤, true, false, IsTrue, Bool, ◌||◌, List, [], ◌∷◌, ◌++◌, length, take}
 use Rattle.std.specs.Prelude.{map, sum_by, Option, Some, None, Result, Ok, Err}
 use Rattle.dictionary.specs.declared.entries.Entry.{Entry}
 use Rattle.dictionary.specs.Dictionary.{step}
@@ -27,6 +27,7 @@ use Rattle.file_grammar.specs.Item.{Item, after as after_item}
 use Rattle.file_grammar.specs.Fault.{Here, told, held, kind, structure, weight, load, first_of, fault_here}
 use Rattle.file_grammar.specs.Steps.{item_here}
 use Rattle.item_reader.specs.declared.item.Item.{Item as Given}
+use Rattle.item_reader.specs.declared.item.Item.TheVariants as given
 use Rattle.item_reader.specs.declared.item.ReadError.{ReadError}
 use Rattle.item_reader.specs.declared.item.ReadError.TheVariants as error
 use Rattle.item_reader.specs.declared.state.State.{State}
@@ -170,6 +171,11 @@ pub record IsKept (old new : State) : Type 0 where
   pub sound : IsSound new
   pub pending : new.segment.pending ≡ []
   pub order : new.segment.order ≡ old.segment.order
+
+-- the file is closed by its end alone
+abbrev pub ClosesBy : Given → Bool → Type 0
+ClosesBy (given.FileEnd at class length seek) closed = closed ≡ true
+ClosesBy item closed = closed ≡ false
 
 -- the segment and its numbering are as they were
 pub record IsOpenStill (old new : State) : Type 0 where

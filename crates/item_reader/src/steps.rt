@@ -12,7 +12,7 @@ ghost use Rattle.file_grammar.specs.Steps.{refusal_reason};
 ghost use Rattle.item_reader.specs.Placed.{IsStructureAt, StandsIn};
 ghost use Rattle.item_reader.specs.State.{IsSound, here_in};
 ghost use Rattle.item_reader.specs.Judged.{InEachFile, Answers, AnswersHolding, Holds, IsKept, EndsFrame};
-ghost use Rattle.item_reader.specs.Judged.{DescribesEntry, body_reasons, table_reasons, IsOpenStill, node_by};
+ghost use Rattle.item_reader.specs.Judged.{DescribesEntry, body_reasons, table_reasons, IsOpenStill, ClosesBy, node_by};
 
 use crate::item::{Item, ReadError};
 use crate::roles::root_of;
@@ -38,6 +38,8 @@ impl State {
             → first_of body_reasons (here_in self.old file) ≡ None
             → DescribesEntry self.old.segment.order file self.old.at entry end
             → Answers (here_in self.old file) result self.new }
+        ensures moved { OnOk result (self.new.at ≡ end) }
+        ensures closed { IfOk result (λ item. ClosesBy item self.new.closed) }
         ensures kept { OnOk result (self.old.segment.pending ≡ [] → IsKept self.old self.new) }
         ensures frame { OnOk result (IsOpenStill self.old self.new) }
         ensures order { self.new.segment.order ≡ self.old.segment.order }
@@ -107,6 +109,8 @@ impl State {
         requires below { table.at + table.length ≤ file_limit }
         ensures answers { (body : List ℕ) → InEachFile self.old table body
             (λ h. first_of table_reasons h ≡ None → Answers h (Ok result) self.new) }
+        ensures moved { self.new.at ≡ self.old.at + table.length }
+        ensures closed { ClosesBy result self.new.closed }
         ensures kept { self.old.segment.pending ≡ [] → IsKept self.old self.new }
         ensures frame { IsOpenStill self.old self.new }
     {
@@ -128,8 +132,9 @@ impl State {
         requires size { end.length ≡ 14 + length body.now }
         requires kind { kind_of self.old.dictionary end.class ≡ variant.FrEndOfFile }
         ensures answers { InEachFile self.old end body.now (λ h. Answers h result self.new) }
+        ensures moved { OnOk result (self.new.at ≡ self.old.at + end.length) }
+        ensures closed { IfOk result (λ item. ClosesBy item self.new.closed) }
         ensures kept { OnOk result (self.old.segment.pending ≡ [] → IsKept self.old self.new) }
-        ensures closed { OnOk result (self.new.closed ≡ true) }
         ensures frame { OnOk result (IsOpenStill self.old self.new) }
         ensures order { self.new.segment.order ≡ self.old.segment.order }
     {
@@ -158,6 +163,8 @@ impl State {
         requires kind { kind_of self.old.dictionary placed.class ≡ variant.FrEndOfFrame }
         requires fits { self.old.load + placed.length ≤ record_limit }
         ensures answers { InEachFile self.old placed self.old.segment.pending (λ h. Answers h result self.new) }
+        ensures moved { OnOk result (self.new.at ≡ self.old.at + placed.length) }
+        ensures closed { IfOk result (λ item. ClosesBy item self.new.closed) }
         ensures kept { OnOk result (IsKept self.old self.new) }
         ensures frame { OnOk result (EndsFrame self.old placed self.new) }
         ensures order { self.new.segment.order ≡ self.old.segment.order }
@@ -188,6 +195,8 @@ impl State {
         requires target { is_target_kind kind ≡ true }
         requires fits { self.old.load + placed.length ≤ record_limit }
         ensures answers { InEachFile self.old placed self.old.segment.pending (λ h. Answers h result self.new) }
+        ensures moved { OnOk result (self.new.at ≡ self.old.at + placed.length) }
+        ensures closed { IfOk result (λ item. ClosesBy item self.new.closed) }
         ensures kept { OnOk result (IsKept self.old self.new) }
         ensures frame { OnOk result (self.new.numbering ≡ None) }
         ensures order { self.new.segment.order ≡ self.old.segment.order }
