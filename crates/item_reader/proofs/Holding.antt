@@ -197,7 +197,7 @@ pub holds-unchanged : (s : State) (entry : Entry) (next : List Entry)
     → Holds s entry false (record s { dictionary = next })
 holds-unchanged s entry next plans sound stepped same = record {
   step_is = stepped;
-  short = omega (arith, taken-short s.dictionary next entry sound stepped);
+  short = taken-short s.dictionary next entry sound stepped;
   changed_is = (λ f. absurd (false≢true f), λ differs. absurd (differs same));
   plans = λ class. plans class ∙ ap (λ d. layout_in d class) (sym same);
   rest = refl;
@@ -213,7 +213,7 @@ pub holds-grown : (s : State) (entry x : Entry) (next : List Entry) (learned : L
     → Holds s entry true (record s { dictionary = next; plans = learned })
 holds-grown s entry x next learned plans sound stepped fresh held read unread = record {
   step_is = stepped;
-  short = omega (arith, taken-short s.dictionary next entry sound stepped);
+  short = taken-short s.dictionary next entry sound stepped;
   changed_is = (λ t. λ same. longer s.dictionary entry (sym g.next_is ∙ same), λ differs. refl);
   plans = by (layout_of entry.elements) refl
       (subst (λ (e : Entry). IfSome (layout_of e.elements)

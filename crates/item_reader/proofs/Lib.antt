@@ -4,4 +4,5 @@ pub mod Holding
 pub mod Located
 pub mod Parts
 pub mod Somewhere
+pub mod Taken
 pub mod Twins
