@@ -1,9 +1,14 @@
 pub mod FrameLinks
 pub mod FrameParts
 pub mod BodyHere
+pub mod CutEntry
 pub mod Growing
+pub mod Holding
 pub mod Located
 pub mod Numbers
 pub mod Parts
 pub mod Passing
 pub mod Giving
+pub mod Somewhere
+pub mod Taken
+pub mod Twins

@@ -134,9 +134,10 @@ pub record DescribesEntry (order : Order) (file : List ℕ) (at : ℕ) (entry : 
       + sum_by (λ e. size_of e.0) (longest_run order file (end_of (structure_at order file at)))
   pub within : end ≤ length file
 
--- the dictionary took an entry, and the plans are those of its entries
+-- the dictionary took an entry, of which nothing was cut, and the plans are those of its entries
 pub record Holds (old : State) (entry : Entry) (changed : Bool) (new : State) : Type 0 where
   pub step_is : step old.dictionary entry ≡ Ok new.dictionary
+  pub short : length entry.elements ≤ 4096
   pub changed_is : IsTrue changed ↔ (new.dictionary ≢ old.dictionary)
   pub plans : (class : ℕ) → plan_of new.plans class ≡ layout_in new.dictionary class
   pub rest : new ≡ record old { dictionary = new.dictionary; plans = new.plans }
