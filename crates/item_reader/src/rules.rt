@@ -86,7 +86,8 @@ impl State {
         requires open { self.now.numbering ≡ None }
         requires here { IsStructureAt self.now.at table }
         requires kind { kind_of self.now.dictionary table.class ≡ variant.FrTOC }
-        ensures { (body : List ℕ) → InEachFile self.now table body (λ h. first_of table_reasons h ≡ result) }
+        ensures fault { (body : List ℕ) → InEachFile self.now table body (λ h. first_of table_reasons h ≡ result) }
+        ensures below { result ≡ None → table.at + table.length ≤ file_limit }
     {
         if self.has_records() {
             return Some(self.fault(Reason::OpenFrame));
@@ -243,8 +244,9 @@ impl State {
         requires here { IsStructureAt self.now.at structure }
         requires kind { (is_frame_kind (kind_of self.now.dictionary structure.class)
             || is_table_kind (kind_of self.now.dictionary structure.class)) ≡ true }
-        ensures { (body : List ℕ) → InEachFile self.now structure body
+        ensures fault { (body : List ℕ) → InEachFile self.now structure body
             (λ h. first_of place_reasons h ≡ result) }
+        ensures below { result ≡ None → structure.at + structure.length ≤ file_limit }
     {
         if self.table {
             Some(self.fault(Reason::AfterTable))
