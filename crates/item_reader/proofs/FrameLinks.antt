@@ -1,6 +1,7 @@
 -- The links of the records of a frame: what a segment tells of them, and what the structures do.
 use Rattle.std.proofs.Common.{◌≡◌, ℕ, suc, ◌+◌, ◌<◌, Bool, true, false, not, ◌&&◌, cond, List, [], ◌∷◌}
-use Rattle.std.proofs.Common.{length, map, get_or, is_none, Option, Some, None, refl, sym, ap, ◌∙◌, subst, arith}
+use Rattle.std.proofs.Common.{length, map, get_or, is_none, Option, Some, None, refl, sym, ap, ◌∙◌, subst}
+use Rattle.std.proofs.Common.{arith}
 use Rattle.std.specs.Prelude.{◌==◌, nat_lt, option_and_then, find, position, slice_get, is_some, IsSome, All}
 use Rattle.std.specs.Option.{option_map, option_map_or}
 use Rattle.std.specs.Result.{result_ok}
@@ -167,7 +168,8 @@ FirstTells order held frame n records (Some z) = IsFirstLoose order held frame n
 
 -- one record more at the front
 first-step : (order : Order) (held : List Entry) (frame : List Structure) (n : ℕ) (r : Bodied)
-    (rs : List Bodied) (o : Option ℕ) (rest : Option (ℕ × ℕ)) → Tells (λ (found : FieldLink). is_loose frame found.link)
+    (rs : List Bodied) (o : Option ℕ) (rest : Option (ℕ × ℕ))
+    → Tells (λ (found : FieldLink). is_loose frame found.link)
     (field_links 0 (values_of order held (structure_of r))) o → FirstTells order held frame (n + 1) rs rest
     → FirstTells order held frame n (r ∷ rs) (option_map_or (λ k. Some (n, k)) o rest)
 first-step order held frame n r rs o rest here more = by o here
@@ -367,8 +369,8 @@ no-plan order held nodes number k node records l is_node none =
 
 -- so it has a link of this number
 pub loose-link : (order : Order) (held : List Entry) (frame : List Structure) (node : Node) (body : List ℕ)
-    (k : ℕ) (fields : List Field) → HoldsLoose order held frame node body k → layout_in held node.class ≡ Some fields
-    → HasLink order fields body k
+    (k : ℕ) (fields : List Field) → HoldsLoose order held frame node body k
+    → layout_in held node.class ≡ Some fields → HasLink order fields body k
 loose-link order held frame node body k fields l layout = (
   l.values,
   l.tail,

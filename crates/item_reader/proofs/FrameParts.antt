@@ -1,6 +1,7 @@
 -- The reasons of a record beside those of its frame, and of the frame's end, where those before them do not
 -- hold.
-use Rattle.std.proofs.Common.{◌≡◌, ◌<◌, ◌≤◌, true, false, not, cond, [], ◌∷◌, ◌++◌, Some, None, refl, sym, ap, ◌∙◌}
+use Rattle.std.proofs.Common.{◌≡◌, ◌<◌, ◌≤◌, true, false, not, cond, [], ◌∷◌, ◌++◌, Some, None, refl, sym}
+use Rattle.std.proofs.Common.{ap, ◌∙◌}
 use Rattle.std.specs.Prelude.{nat_le}
 use Rattle.std.proofs.lemmas.Bool.{le-leb, lt-leb, and_left, and_right}
 use Rattle.file_grammar.specs.declared.reason.Reason.TheVariants.{FrameHTwice, NoFrameH, LooseLink}
@@ -23,7 +24,8 @@ use Rattle.item_reader.proofs.Parts.{first_of-front, first_of-back}
 -- ---- the frame that is open
 
 -- whether it has its header is kept
-pub header-kept : (s : State) → IsSound s → s.numbering ≡ None → s.header ≡ has_header s.dictionary (frame_of s)
+pub header-kept : (s : State) → IsSound s → s.numbering ≡ None
+    → s.header ≡ has_header s.dictionary (frame_of s)
 header-kept s sound unended =
     (sound.frame unended).header_is
     ∙ sym (ap (λ numbers. has_header s.dictionary (open_records numbers s.segment)) unended)

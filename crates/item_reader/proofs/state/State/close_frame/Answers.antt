@@ -16,7 +16,8 @@ use Rattle.item_reader.proofs.state.State.close_frame.Goals as goal
 
 -- an open frame with a header, whose segment has no loose link
 linked-end : (s : State) → IsSound s → s.numbering ≡ None → s.header ≡ true
-    → first_loose_of s.plans s.segment ≡ None → (p : Placed) → kind_of s.dictionary p.class ≡ FrEndOfFrame → (body : List ℕ)
+    → first_loose_of s.plans s.segment ≡ None → (p : Placed) → kind_of s.dictionary p.class ≡ FrEndOfFrame
+    → (body : List ℕ)
     → InEachFile s p body (λ h. (is_end_kind (kind h) ≡ true)
     × (first_of frame_end_reasons h ≡ first_of (place_reasons ++ FramesLimit ∷ []) h))
 linked-end s sound unended header linked p kind_is body file stands =

@@ -11,7 +11,8 @@ use Rattle.item_reader.proofs.state.State.loose_fault.Goals as goal
 -- the first loose link of the segment is one of the frame
 loose : (s : State) → IsSound s → (node k : ℕ) → first_loose s.plans s.segment ≡ Some (node, k)
     → IsFirstLoose s.segment.order s.dictionary (map structure_of s.segment.nodes) 0 s.segment.nodes node k
-loose s sound node k is = first-loose s.plans s.segment.order s.dictionary s.segment.nodes sound.plans node k is
+loose s sound node k is =
+    first-loose s.plans s.segment.order s.dictionary s.segment.nodes sound.plans node k is
 
 pub node-record-requires : goal.node-record-requires
 node-record-requires c =
