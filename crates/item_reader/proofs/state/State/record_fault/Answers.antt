@@ -28,4 +28,4 @@ returns c = λ body file stands.
           ∙ no-header_kind c.args.kind
           (same_false the_type c.args.kind FrameH (sym c.eq.ensures ∙ w.if-eq.false)))
     ] in
-    judged ∙ c.place_fault.ensures body file stands
+    judged ∙ c.place_fault.ensures.fault body file stands

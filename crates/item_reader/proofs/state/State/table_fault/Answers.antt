@@ -10,8 +10,8 @@ use Rattle.item_reader.specs.Judged.{place_reasons}
 use Rattle.item_reader.proofs.Located.{kind-here}
 use Rattle.item_reader.proofs.state.State.table_fault.Goals as goal
 
-pub returns : goal.returns
-returns c =
+pub returns-clause-fault : goal.returns-clause-fault
+returns-clause-fault c =
     λ body file stands.
     let s = c.args.self.now in
     let p = c.args.table in
@@ -19,4 +19,4 @@ returns c =
     let is : kind h ≡ FrTOC = kind-here h p stands.placed ∙ c.requires.kind in
     let closed : not (is_empty (frame_of s)) ≡ false = sym c.has_records.ensures ∙ c.if-has_records.false in
     first_of-passes OpenFrame place_reasons h (λ i. here h (is_closing_kind (is i) && closed i))
-    ∙ c.place_fault.ensures body file stands
+    ∙ c.place_fault.ensures.fault body file stands
