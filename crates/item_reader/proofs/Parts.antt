@@ -23,17 +23,18 @@ use Rattle.file_grammar.specs.declared.fault.Fault.{Fault}
 use Rattle.file_grammar.specs.declared.kind.Kind.{Kind}
 use Rattle.file_grammar.specs.declared.kind.Kind.TheVariants.{FrSH, FrSE, FrameH, FrEndOfFrame, FrTOC, FrEndOfFile}
 use Rattle.file_grammar.specs.declared.kind.Kind.TheVariants.{Other}
-use Rattle.file_grammar.specs.Structure.{Structure, end_of, record_limit, file_limit}
+use Rattle.file_grammar.specs.Structure.{Structure, size_of, end_of, record_limit, file_limit}
 use Rattle.file_grammar.specs.Closing.{field_named}
 use Rattle.file_grammar.specs.Kind.{is_frame_kind, is_target_kind, is_table_kind, is_header_kind, is_file_end_kind}
 use Rattle.file_grammar.specs.Record.{Reading, reading_by, reading_of, layout_in, is_target, has_target}
 use Rattle.file_grammar.specs.Fault.{Here, Spot, place, left, told, held, class, kind, structure, fields, fields_by}
-use Rattle.file_grammar.specs.Fault.{load, body_fault, elements, number, here, here_at, is_twin, has_twin, has_header}
+use Rattle.file_grammar.specs.Fault.{weight, load, body_fault, elements, number, here, here_at, is_twin, has_twin}
+use Rattle.file_grammar.specs.Fault.{has_header}
 use Rattle.file_grammar.specs.Fault.{judged, fault_at, first_of}
 use Rattle.file_grammar.specs.Steps.{length_reason, reasons_of}
 use Rattle.item_reader.specs.Judged.{ReadsHere, is_read_kind, body_reasons, reading_reasons, weighing_reasons}
 use Rattle.item_reader.specs.Judged.{place_reasons, record_reasons, frame_end_reasons, table_reasons, count_reasons}
-use Rattle.item_reader.specs.Judged.{closing_reasons, entry_reasons, IsReadBy}
+use Rattle.item_reader.specs.Judged.{closing_reasons, entry_reasons, IsReadBy, IsRead}
 use Rattle.file_grammar.proofs.Firsts.{first_of-holds, first_of-passes, first_of-others}
 use Rattle.file_grammar.proofs.Lengths.{Fits}
 use Rattle.file_grammar.proofs.Tests.{test-InstanceTwice, test-FrameCount, test-ByteCount}
@@ -209,6 +210,22 @@ reads-unfaulted h read reads =
     ∙ first_of-good_body h []
     (ap (option_and_then (λ fields. fault_of h.order fields (structure h).body)) (fields-described h read ∙ is)
     ∙ no_fault-reading h.order (structure h).body fs reads.0 by))
+
+-- what reads by the layout of its class
+pub read-described : (h : Here) (fs : List Field) (zero_texts : ℕ) → is_read_kind (kind h) ≡ true
+    → layout_in (held h) (class h) ≡ Some fs → IsReadBy h fs zero_texts → IsRead h zero_texts
+read-described h fs zero_texts read is by =
+    let reads : reading_of h.order (held h) (structure h) ≡ Some by.reading =
+    ap (option_and_then (reading_by h.order (structure h).body)) is ∙ by.reads in
+    let r = by.reading in
+    let weight_is : weight h ≡ 14 + (values_length r.fields r.values + length r.tail) =
+    ap (λ o. option_map_or (λ (r : Reading). 14 + (values_length r.fields r.values + length r.tail)) o
+    (size_of (structure h))) reads in
+    record {
+      reads = (by.reading, reads);
+      none = layout-known h fs read is ∙ by.none;
+      weight_is = by.weight_is ∙ sym weight_is;
+    }
 
 -- ---- the weight
 
