@@ -45,7 +45,7 @@ returns-in-Some-clause-fault c = λ body fault is file stands.
     let end = linked-end s c.requires.sound c.requires.«open» c.if-not-self.false c.in-Ok.ensures.linked
     c.args.placed c.requires.kind body file stands in
     let same : c.in-Some.fault ≡ fault = cc in
-    end-misplaced h fault end.1 (c.in-Some.ensures body file stands ∙ ap Some same)
+    end-misplaced h fault end.1 (c.in-Some.ensures.fault body file stands ∙ ap Some same)
 
 pub returns-then-self-ge-FRAMES_LIMIT-clause-fault :
     goal.returns-then-self-ge-FRAMES_LIMIT-clause-fault
@@ -55,7 +55,7 @@ returns-then-self-ge-FRAMES_LIMIT-clause-fault c = λ body fault is file stands.
     let end = linked-end s c.requires.sound c.requires.«open» c.if-not-self.false c.in-Ok.ensures.linked
     c.args.placed c.requires.kind body file stands in
     let same : c.fault-then-self-ge-FRAMES_LIMIT.result ≡ fault = cc in
-    end-full h end.0 end.1 (c.in_default.ensures body file stands) c.if-self-ge-FRAMES_LIMIT.true
+    end-full h end.0 end.1 (c.in_default.ensures.fault body file stands) c.if-self-ge-FRAMES_LIMIT.true
     ∙ ap Some (sym c.fault-then-self-ge-FRAMES_LIMIT.ensures ∙ same)
 
 pub returns-clause-none : goal.returns-clause-none
@@ -64,4 +64,4 @@ returns-clause-none c = λ body file stands.
     let h = here_in s file in
     let end = linked-end s c.requires.sound c.requires.«open» c.if-not-self.false c.in-Ok.ensures.linked
     c.args.placed c.requires.kind body file stands in
-    end-stands h end.0 end.1 (c.in_default.ensures body file stands) c.if-self-ge-FRAMES_LIMIT.false
+    end-stands h end.0 end.1 (c.in_default.ensures.fault body file stands) c.if-self-ge-FRAMES_LIMIT.false
