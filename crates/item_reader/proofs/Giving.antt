@@ -1,17 +1,39 @@
 -- What taking the next item answers, from what its parts answer.
-use Rattle.std.proofs.Common.{◌≡◌, ◌≤◌, ℕ, Result, Ok, Err, Some, inl, inr, refl, sym, ap, ◌∙◌, subst}
-use Rattle.std.specs.Prelude.{IsErrAnd, OnErr}
+use Rattle.std.proofs.Common.{◌≡◌, ◌≤◌, ℕ, Bool, true, false, List, [], length, Result, Ok, Err, Option, Some, None, inl, inr, refl, sym, ap}
+use Rattle.std.proofs.Common.{◌∙◌, subst, cond}
+use Rattle.std.specs.Prelude.{◌⊎◌, ◌&&◌, is_none, IsErrAnd, OnErr}
 use Rattle.file_grammar.specs.declared.fault.Fault.{Fault}
-use Rattle.file_grammar.specs.Fault.{Here, fault_here}
+use Rattle.file_grammar.specs.declared.kind.Kind.{Kind}
+use Rattle.file_grammar.specs.declared.kind.Kind.TheVariants.{FrSH, FrSE, FrameH, FrEndOfFrame, FrTOC, FrEndOfFile}
+use Rattle.file_grammar.specs.declared.kind.Kind.TheVariants.{Other}
+use Rattle.file_grammar.specs.Structure.{Structure}
+use Rattle.file_grammar.specs.Kind.{is_table_kind, is_target_kind}
+use Rattle.file_grammar.specs.Record.{layout_in}
+use Rattle.file_grammar.specs.Item.{Item, OtherItem}
+use Rattle.file_grammar.specs.Fault.{Here, place, held, class, kind, structure, fault_here}
+use Rattle.file_grammar.specs.Steps.{item_by}
 use Rattle.item_reader.specs.declared.cursor.Cursor.{Cursor}
 use Rattle.item_reader.specs.declared.item.Item.{Item as Given}
+use Rattle.item_reader.specs.declared.item.Item.TheVariants as given
 use Rattle.item_reader.specs.declared.item.ReadError.{ReadError}
 use Rattle.item_reader.specs.declared.item.ReadError.TheVariants as error
 use Rattle.frame_outside.specs.Shelf.{Outside}
 use Rattle.structure_source.specs.Source.{Position, drawn}
-use Rattle.item_reader.specs.Looked.{look, IsWithinLook}
-use Rattle.item_reader.specs.State.{here_in}
-use Rattle.item_reader.specs.Cursor.{GivesNext, InFile}
+use Rattle.item_reader.specs.Looked.{look, IsWithinLook, IsLooked}
+use Rattle.item_reader.specs.declared.state.State.{State}
+use Rattle.item_reader.specs.declared.structure.Placed.{Placed}
+use Rattle.item_reader.specs.Placed.{IsPlaced, StandsIn, body_of}
+use Rattle.scalar_types.specs.declared.Order.{Order}
+use Rattle.std.proofs.lemmas.Bool.{false≢true}
+use Rattle.item_reader.specs.declared.looked.Looked.{Looked}
+use Rattle.item_reader.specs.declared.looked.Looked.TheVariants.{Nothing}
+use Rattle.item_reader.specs.Given.{body_after, Tells, TellsKind}
+use Rattle.item_reader.specs.Reader.{IsFrameOf, Collects}
+use Rattle.item_reader.proofs.Collecting.{frame-collected}
+use Rattle.item_reader.specs.Judged.{Takes, ClosesBy}
+use Rattle.item_reader.specs.State.{here_in, before_of, IsSound}
+use Rattle.item_reader.specs.Cursor.{GivesNext, Gives, InFile, table_body, body_in}
+use Rattle.item_reader.proofs.Located.{class-here, body-here}
 
 -- an error that is passed on is the same
 pub err-passed : {T E : Type 0} (r : Result T E) (e : E) (P : Result T E → Type 0) → IsErrAnd r (λ x. x ≡ e) → P (Err e)
@@ -51,3 +73,158 @@ pub err-within : {T : Type 0} (r : Result T ReadError) (outside : Outside) (c : 
     → InFile outside c (λ h. drawn p ≤ look h.order h.file h.before.place)
     → OnErr r (InFile outside c (λ h. IsWithinLook h.order h.file h.before.place (drawn p)))
 err-within r outside c p few = err-said r _ (within outside c p few)
+
+-- a structure of which the head tells a fault, where it is whole, was passed over
+pub passed-over : (h : Here) (e : ReadError) (new : Cursor) (fault : Fault) (p : Placed)
+    → ((other : Fault) → e ≡ error.Fault other
+    → (fault_here h ≡ Some other) ⊎ ((other ≡ fault) × IsPlaced h.order h.file (place h) p))
+    → (IsPlaced h.order h.file (place h) p → fault_here h ≡ Some fault) → GivesNext h (Err e) new
+passed-over h e new fault p said told = refused h e new (λ other is. elim (said other is) [
+  | inl there ↦ there
+  | inr whole ↦ told whole.1 ∙ ap Some (sym whole.0)
+])
+
+-- ---- the item given
+
+-- the structure that was taken, where it begins no entry
+pub other-taken : (h : Here) (item : Given) (new : State) (t : Takes h item new) (k : Kind) → kind h ≡ k
+    → item_by k h ≡ Some (OtherItem (structure h)) → t.taken ≡ OtherItem (structure h)
+other-taken h item new t k is other =
+    let same : ◌≡◌ {A = Option Item} (Some t.taken) (Some (OtherItem (structure h))) =
+    sym t.is ∙ ap (λ k. item_by k h) is ∙ other in
+    cc
+
+-- its body is lent
+pub body-taken : (h : Here) (taken : Item) (p : Placed) (body : List ℕ) → taken ≡ OtherItem (structure h)
+    → is_table_kind (kind h) ≡ false → StandsIn h.order (place h) p body h.file → body ≡ body_after h taken
+body-taken h taken p body is apart stands =
+    stands.body_is
+    ∙ sym (body-here h p stands.placed)
+    ∙ sym (ap (λ b. cond (b && is_none (layout_in (held h) (class h))) [] (structure h).body) apart)
+    ∙ sym (ap (body_after h) is)
+
+pub table-taken : (h : Here) (taken : Item) (p : Placed) → taken ≡ OtherItem (structure h) → kind h ≡ FrTOC
+    → IsPlaced h.order h.file (place h) p → table_body (held h) p (body_of h.file p) ≡ body_after h taken
+table-taken h taken p is table placed =
+    (λ i. cond (is_none (layout_in (held h) (sym (class-here h p placed) i))) [] (sym (body-here h p placed) i))
+    ∙ sym (ap (λ k. cond (is_table_kind k && is_none (layout_in (held h) (class h))) [] (structure h).body) table)
+    ∙ sym (ap (body_after h) is)
+
+-- nothing was looked at
+pub looked-nothing : (order : Order) (file : List ℕ) (place read : ℕ) (looked : Looked) → looked ≡ Nothing
+    → read ≡ place → IsLooked order file place read looked
+looked-nothing order file place read looked none is = subst (IsLooked order file place read) (sym none) is
+
+-- an item after which the frame is open and the file goes on
+pub gives-open : (h : Here) (item : Given) (new : Cursor) (takes : Takes h item new.state)
+    → body_in (Some item) new.own.items new.state.segment ≡ body_after h takes.taken
+    → (IsFrameOf h.order (before_of new.state) new.state.segment × (new.state.numbering ≡ None)
+    → Collects h item (before_of new.state) new.state.numbering new.state.segment)
+    → new.state.segment.order ≡ h.order → IsSound new.state → new.state.segment.pending ≡ []
+    → new.state.numbering ≡ None → IsLooked h.order h.file new.state.at new.source.at new.looked
+    → new.state.closed ≡ false → Gives h item new
+gives-open h item new takes body collects order sound none frame looked unclosed = record {
+  takes = takes;
+  body_is = body;
+  frame = collects (frame-collected h.order new.state order sound frame none, frame);
+  looked = looked;
+  end = λ closed. absurd (false≢true (sym unclosed ∙ closed));
+}
+
+-- ---- what is given of a structure of a kind
+
+tells-other : (h : Here) (taken : Item) (item : Given) (k : Kind) → Tells h taken item → taken ≡ OtherItem (structure h)
+    → kind h ≡ k → TellsKind k h (structure h) item
+tells-other h taken item k tells other is =
+    subst (λ k. TellsKind k h (structure h) item) is (subst (λ i. Tells h i item) other tells)
+
+table-item : (h : Here) (s : Structure) (item : Given) → TellsKind FrTOC h s item
+    → (at : ℕ) × (class : ℕ) × (size : ℕ) × (item ≡ given.Table at class size)
+table-item h s (given.Table at class size) t = (at, class, size, refl)
+table-item h s (given.Entry at class changed) t = absurd t
+table-item h s (given.Plain at class instance node) t = absurd t
+table-item h s (given.FrameEnd at class) t = absurd t
+table-item h s (given.FileEnd at class size seek) t = absurd t
+
+file_end-item : (h : Here) (s : Structure) (item : Given) → TellsKind FrEndOfFile h s item
+    → (at : ℕ) × (class : ℕ) × (size : ℕ) × (seek : ℕ) × (item ≡ given.FileEnd at class size seek)
+file_end-item h s (given.FileEnd at class size seek) t = (at, class, size, seek, refl)
+file_end-item h s (given.Entry at class changed) t = absurd t
+file_end-item h s (given.Plain at class instance node) t = absurd t
+file_end-item h s (given.FrameEnd at class) t = absurd t
+file_end-item h s (given.Table at class size) t = absurd t
+
+frame_end-item : (h : Here) (s : Structure) (item : Given) → TellsKind FrEndOfFrame h s item
+    → (at : ℕ) × (class : ℕ) × (item ≡ given.FrameEnd at class)
+frame_end-item h s (given.FrameEnd at class) t = (at, class, refl)
+frame_end-item h s (given.Entry at class changed) t = absurd t
+frame_end-item h s (given.Plain at class instance node) t = absurd t
+frame_end-item h s (given.Table at class size) t = absurd t
+frame_end-item h s (given.FileEnd at class size seek) t = absurd t
+
+record-item : (h : Here) (s : Structure) (item : Given) (k : Kind) → is_target_kind k ≡ true → TellsKind k h s item
+    → (at : ℕ) × (class : ℕ) × (instance : ℕ) × (item ≡ given.Plain at class instance (length h.before.frame))
+record-item h s (given.Plain at class instance node) FrameH e t = (at, class, instance, λ i. given.Plain at class instance (t.3 i))
+record-item h s (given.Plain at class instance node) Other e t = (at, class, instance, λ i. given.Plain at class instance (t.3 i))
+record-item h s (given.Plain at class instance node) FrSH e t = absurd t
+record-item h s (given.Plain at class instance node) FrSE e t = absurd t
+record-item h s (given.Plain at class instance node) FrTOC e t = absurd t
+record-item h s (given.Plain at class instance node) FrEndOfFile e t = absurd t
+record-item h s (given.Plain at class instance node) FrEndOfFrame e t = absurd t
+record-item h s (given.FrameEnd at class) k e t = absurd (apart k e t)
+  where
+    apart : (k : Kind) → is_target_kind k ≡ true → TellsKind k h s (given.FrameEnd at class) → ⊥
+    apart FrEndOfFrame e t = false≢true e
+    apart FrSH e t = t
+    apart FrSE e t = t
+    apart FrTOC e t = t
+    apart FrEndOfFile e t = t
+    apart FrameH e t = t
+    apart Other e t = t
+record-item h s (given.Entry at class changed) k e t = absurd (apart k t)
+  where
+    apart : (k : Kind) → TellsKind k h s (given.Entry at class changed) → ⊥
+    apart FrEndOfFile t = t
+    apart FrSH t = t
+    apart FrSE t = t
+    apart FrTOC t = t
+    apart FrEndOfFrame t = t
+    apart FrameH t = t
+    apart Other t = t
+record-item h s (given.Table at class size) k e t = absurd (apart k e t)
+  where
+    apart : (k : Kind) → is_target_kind k ≡ true → TellsKind k h s (given.Table at class size) → ⊥
+    apart FrTOC e t = false≢true e
+    apart FrSH e t = t
+    apart FrSE e t = t
+    apart FrEndOfFrame e t = t
+    apart FrEndOfFile e t = t
+    apart FrameH e t = t
+    apart Other e t = t
+record-item h s (given.FileEnd at class size seek) k e t = absurd (apart k e t)
+  where
+    apart : (k : Kind) → is_target_kind k ≡ true → TellsKind k h s (given.FileEnd at class size seek) → ⊥
+    apart FrEndOfFile e t = false≢true e
+    apart FrSH e t = t
+    apart FrSE e t = t
+    apart FrTOC e t = t
+    apart FrEndOfFrame e t = t
+    apart FrameH e t = t
+    apart Other e t = t
+
+-- a contents table
+pub gives-table : (h : Here) (item : Given) (new : Cursor) (takes : Takes h item new.state) (p : Placed)
+    → kind h ≡ FrTOC → IsPlaced h.order h.file (place h) p
+    → new.own.items ≡ table_body (held h) p (body_of h.file p)
+    → new.state.segment.order ≡ h.order → IsSound new.state → new.state.segment.pending ≡ []
+    → new.state.numbering ≡ None → IsLooked h.order h.file new.state.at new.source.at new.looked
+    → ClosesBy item new.state.closed → Gives h item new
+gives-table h item new takes p is placed own order sound none frame looked closes =
+    let other : takes.taken ≡ OtherItem (structure h) = other-taken h item new.state takes FrTOC is refl in
+    let table = table-item h (structure h) item (tells-other h takes.taken item FrTOC takes.tells other is) in
+    gives-open h item new takes
+    (ap (λ i. body_in (Some i) new.own.items new.state.segment) table.3
+    ∙ own ∙ table-taken h takes.taken p other is placed)
+    (subst (λ i. IsFrameOf h.order (before_of new.state) new.state.segment × (new.state.numbering ≡ None)
+    → Collects h i (before_of new.state) new.state.numbering new.state.segment) (sym table.3) (λ f. f))
+    order sound none frame looked (subst (λ i. ClosesBy i new.state.closed) table.3 closes)

@@ -12,3 +12,4 @@ pub mod Giving
 pub mod Somewhere
 pub mod Taken
 pub mod Twins
+pub mod Collecting

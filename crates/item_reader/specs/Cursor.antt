@@ -1,13 +1,15 @@
 -- Where a reader stands in its file, as the code keeps it, and what taking the next item answers.
 use Rattle.std.specs.Prelude.{◌≡◌, ℕ, ◌+◌, ◌≤◌, true, false, List, [], length, Option, Some, None, Result, Ok, Err, ⊤}
-use Rattle.std.specs.Prelude.{slice_get}
+use Rattle.std.specs.Prelude.{slice_get, is_none, if◌then◌else◌}
 use Rattle.std.specs.Option.{option_map_or}
 use Rattle.frame_head.specs.declared.structure.Common.{Common}
 use Rattle.frame_outside.specs.Shelf.{Outside, Told, reading_at}
 use Rattle.link_graph.specs.Collected.{Bodied, Collected}
 use Rattle.structure_source.specs.declared.source.Head.TheVariants.{Whole}
 use Rattle.structure_source.specs.Source.{Stands, IsHead}
+use Rattle.dictionary.specs.declared.entries.Entry.{Entry}
 use Rattle.file_grammar.specs.declared.fault.Fault.{Fault}
+use Rattle.file_grammar.specs.Record.{layout_in}
 use Rattle.file_grammar.specs.Fault.{Here, fault_here}
 use Rattle.item_reader.specs.declared.cursor.Cursor.{Cursor}
 use Rattle.item_reader.specs.declared.item.Item.{Item as Given}
@@ -57,6 +59,10 @@ pub record IsHeadOf (h : Here) (p : Placed) : Type 0 where
   pub common : Common
   pub placed : p ≡ placed_at h.before.place common
   pub head : IsHead h.order h.file h.before.place (Whole common)
+
+-- the body that is kept of a contents table: none where its layout is not readable
+abbrev pub table_body : List Entry → Placed → List ℕ → List ℕ
+table_body held table body = if is_none (layout_in held table.class) then [] else body
 
 -- what holds at the place reached of the file that a cursor reads, where the shelf tells it
 abbrev pub InFile : Outside → Cursor → (Here → Type 0) → Type 0

@@ -10,11 +10,11 @@ ghost use Rattle.file_grammar.specs.declared.kind.Kind.TheVariants as variant;
 ghost use Rattle.file_grammar.specs.Structure.{record_limit};
 ghost use Rattle.file_grammar.specs.Kind.{kind_of, is_frame_kind};
 ghost use Rattle.file_grammar.specs.Fault.{fault_here};
-ghost use Rattle.item_reader.specs.Placed.{IsStructureAt, IsPlaced, StandsIn};
+ghost use Rattle.item_reader.specs.Placed.{IsStructureAt, IsPlaced, StandsIn, body_of};
 ghost use Rattle.item_reader.specs.Looked.{ReadsTo, IsWithinLook, look};
 ghost use Rattle.item_reader.specs.Judged.{IsKept, ClosesBy};
 ghost use Rattle.item_reader.specs.State.{IsSound, before_of};
-ghost use Rattle.item_reader.specs.Cursor.{IsReady, HasPassed, InFile, GivesNext};
+ghost use Rattle.item_reader.specs.Cursor.{IsReady, HasPassed, InFile, GivesNext, table_body};
 
 use crate::entries::{Run, begun_entry, read_run};
 use crate::item::{Item, ReadError};
@@ -187,12 +187,7 @@ impl Cursor {
         if let Some(fault) = self.state.table_fault(table) {
             return Err(self.pass_over(shelf, table, fault));
         }
-        if self.state.plans.plan(table.class).is_some() {
-            self.bring_own(shelf, table)?;
-        } else {
-            self.own.clear();
-            self.pass(shelf, table)?;
-        }
+        self.bring_table(shelf, table)?;
         Ok(self.state.take_table(table))
     }
 
@@ -314,6 +309,31 @@ impl Cursor {
             return Err(self.state.fault(Reason::CutRecord).into());
         }
         Ok(())
+    }
+
+    /// Brings the body of a contents table where its layout is readable, and else passes over it.
+    fn bring_table<S: Shelf>(&mut self, shelf: &mut S, table: Placed) -> Result<(), ReadError>
+        requires passed { HasPassed (S.outside shelf.old) self.old table }
+        ensures placed { OnOk result (InFile (S.outside shelf.old) self.old (λ h.
+            IsPlaced h.order h.file h.before.place table)) }
+        ensures body { OnOk result (InFile (S.outside shelf.old) self.old (λ h. self.new.own.items
+            ≡ table_body self.old.state.dictionary table (body_of h.file table))) }
+        ensures rest { self.new ≡ record self.old { source = self.new.source; own = self.new.own } }
+        ensures cut { (fault : Fault) → result ≡ Err (ReadError.Fault fault)
+            → InFile (S.outside shelf.old) self.old (λ h. fault_here h ≡ Some fault) }
+        ensures place { OnOk result (self.new.source.at ≡ self.old.state.at + table.length) }
+        ensures device { result ≡ Err ReadError.Device
+            → Rose (S.outside shelf.old).faults (S.outside shelf.new).faults }
+        ensures stands { Stands (S.outside shelf.new) self.new.source }
+        ensures on { GoesOn (S.outside shelf.old) (S.outside shelf.new) self.old.source self.new.source }
+        ensures ahead { InFile (S.outside shelf.old) self.old
+            (λ h. drawn self.new.source ≤ look h.order h.file h.before.place) }
+    {
+        if self.state.plans.plan(table.class).is_some() {
+            return self.bring_own(shelf, table);
+        }
+        self.own.clear();
+        self.pass(shelf, table)
     }
 
     /// Passes over a body.

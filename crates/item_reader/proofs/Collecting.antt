@@ -1,0 +1,39 @@
+-- The frame that is collected: the one that is open, or the one that has just ended.
+use Rattle.std.proofs.Common.{◌≡◌, ℕ, suc, List, [], ◌∷◌, All, Option, Some, None, refl, sym, ap, ◌∙◌, subst, arith}
+use Rattle.std.specs.Prelude.{map, IsSome}
+use Rattle.scalar_types.specs.declared.Order.{Order}
+use Rattle.dictionary.specs.declared.entries.Entry.{Entry}
+use Rattle.link_graph.specs.Collected.{Bodied}
+use Rattle.file_grammar.specs.Item.{Before}
+use Rattle.item_reader.specs.declared.state.State.{State}
+use Rattle.item_reader.specs.State.{IsSound, IsOpen, IsRecord, structure_of, bodied_of, before_of, frame_of, open_records}
+use Rattle.item_reader.specs.Reader.{IsFrameOf}
+
+-- a record is the one of the structure that it is
+record-bodied : (order : Order) (held : List Entry) (r : Bodied) → IsRecord order held r
+    → bodied_of held (structure_of r) ≡ r
+record-bodied order held r is = λ i. record {
+  node = record { at = r.node.at; class = r.node.class; instance = r.node.instance; root = sym is.root_is i };
+  body = r.body;
+}
+
+pub all-bodied : (order : Order) (held : List Entry) (nodes : List Bodied) → All (IsRecord order held) nodes
+    → map (bodied_of held) (map structure_of nodes) ≡ nodes
+all-bodied order held [] all = refl
+all-bodied order held (r ∷ rs) all =
+    λ i. record-bodied order held r (all 0 r (omega arith)) i
+    ∷ all-bodied order held rs (λ k d lt. all (suc k) d (omega (arith, lt))) i
+
+-- what is kept of the open frame
+pub frame-collected : (order : Order) (s : State) → s.segment.order ≡ order → IsSound s → s.numbering ≡ None
+    → s.segment.pending ≡ [] → IsFrameOf order (before_of s) s.segment
+frame-collected order s same sound open_is none =
+    let is : IsOpen s = sound.frame open_is in
+    let frame : frame_of s ≡ map structure_of s.segment.nodes = ap (λ n. open_records n s.segment) open_is in
+    record {
+      order_is = same;
+      nodes = sym (ap (map (bodied_of s.dictionary)) frame
+          ∙ all-bodied s.segment.order s.dictionary s.segment.nodes is.records);
+      end_record = is.end_record;
+      pending = none;
+    }
