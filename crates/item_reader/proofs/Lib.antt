@@ -1,6 +1,7 @@
 pub mod CutEntry
 pub mod Growing
 pub mod Holding
+pub mod Kept
 pub mod Located
 pub mod Parts
 pub mod Somewhere
