@@ -4,6 +4,7 @@ pub mod BodyHere
 pub mod CutEntry
 pub mod Growing
 pub mod Holding
+pub mod Kept
 pub mod Located
 pub mod Numbers
 pub mod Parts

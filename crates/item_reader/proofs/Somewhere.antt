@@ -46,7 +46,7 @@ stands-somewhere order at p body here size instance = record {
     bytes = common_bytes order (common_with p)
 
     from : drop p.at file ≡ bytes ++ body
-    from = drop_at (replicate p.at 0) (bytes ++ body) p.at (length-replicate p.at 0)
+    from = drop_at (replicate p.at 0) (bytes ++ body) p.at (length-replicate {A = ℕ} p.at 0)
 
     small : p.length ≤ record_limit
     small = here.small
@@ -69,6 +69,6 @@ stands-somewhere order at p body here size instance = record {
           arith,
           length-append (replicate p.at 0) (bytes ++ body),
           length-append bytes body,
-          length-replicate p.at 0,
+          length-replicate {A = ℕ} p.at 0,
           common_bytes-length order (common_with p),
         )

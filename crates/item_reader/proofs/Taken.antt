@@ -2,7 +2,7 @@
 use Rattle.std.proofs.Common.{◌≡◌, ◌≢◌, ◌↔◌, ℕ, ◌+◌, ◌<◌, ◌≤◌, Bool, true, false, not, List, [], ◌∷◌, ◌++◌, map}
 use Rattle.std.proofs.Common.{length, drop, Option, Some, None, Result, Ok, Err, refl, sym, ap, ◌∙◌, subst, arith}
 use Rattle.std.proofs.Common.{length-append, sum_by}
-use Rattle.std.specs.Prelude.{IsTrue, codes, nat_lt, IsErrAnd, IfErr}
+use Rattle.std.specs.Prelude.{IsTrue, codes, IsErrAnd, IsErrOf}
 use Rattle.std.specs.Option.{option_map}
 use Rattle.std.proofs.lemmas.List.{map-append, length-map}
 use Rattle.std.proofs.lemmas.List.Sums.{sum_by-cons}
@@ -10,6 +10,8 @@ use Rattle.std.proofs.lemmas.Bool.{false≢true}
 use Rattle.std.proofs.lemmas.Option.{none-some}
 use Rattle.dictionary.specs.declared.entries.Element.{Element}
 use Rattle.dictionary.specs.declared.entries.Entry.{Entry}
+use Rattle.link_graph.specs.declared.segment.SegmentFault.{SegmentFault}
+use Rattle.link_graph.specs.declared.segment.SegmentFault.TheVariants as segment
 use Rattle.link_graph.specs.Collected.{Bodied, Collected, Becomes, with_node, is_held}
 use Rattle.file_grammar.specs.declared.reason.Reason.{Reason}
 use Rattle.file_grammar.specs.declared.reason.Reason.TheVariants.{InstanceTwice}
@@ -122,6 +124,21 @@ frame_end-judged s p file body unclosed stands kind_is =
     fault-kind h p unclosed stands.placed
     ∙ frame_end-parts h (fits-here h p stands.placed) (kind-here h p stands.placed ∙ kind_is)
 
+-- a frame that may not end here
+pub frame_end-refused : {N : Type 0} (s : State) (p : Placed) (told_weight : ℕ) (result : Result N ReadError)
+    (error : ReadError) (new : State) (file body : List ℕ) → s.closed ≡ false
+    → StandsIn s.segment.order s.at p body file → kind_of s.dictionary p.class ≡ FrEndOfFrame
+    → IsWeighed (here_in s file) told_weight → result ≡ Err error
+    → ((fault : Fault) → result ≡ Err (errors.Fault fault) → first_of frame_end_reasons (here_in s file) ≡ Some fault)
+    → (result ≡ Err errors.Device → ⊥) → Answers (here_in s file) (Err error) new
+frame_end-refused s p told_weight result (errors.Fault f) new file body unclosed stands is w failed told device =
+    frame_end-judged s p file body unclosed stands is
+    ∙ first_of-back weighing_reasons frame_end_reasons (here_in s file) w.none
+    ∙ told f failed
+frame_end-refused s p told_weight result errors.Device new file body unclosed stands is w failed told device =
+    absurd (device failed)
+frame_end-refused s p told_weight result errors.NoMemory new file body unclosed stands is w failed told device = tt
+
 -- the state after the end of a frame
 abbrev pub after_frame_end : State → Placed → Collected → List ℕ → State
 after_frame_end s p segment numbers = record s {
@@ -210,6 +227,19 @@ record-judged s p file body unclosed stands target =
     let h : Here = here_in s file in
     fault-kind h p unclosed stands.placed
     ∙ record-parts h (fits-here h p stands.placed) (ap is_target_kind (kind-here h p stands.placed) ∙ target)
+
+-- what is added is not held, and what is refused for it is
+pub added-new : (result : Result ℕ SegmentFault) (k : ℕ) (held : Bool) → result ≡ Ok k
+    → (IsTrue held → IsErrOf result segment.InstanceTwice) → held ≡ false
+added-new result k true ok twice = absurd (unlike (sym ok ∙ twice refl))
+  where
+    unlike : ◌≡◌ {A = Result ℕ SegmentFault} (Ok k) (Err segment.InstanceTwice) → ⊥
+    unlike e = cc
+added-new result k false ok twice = refl
+
+pub refused-held : (result : Result ℕ SegmentFault) (fault : SegmentFault) (held : Bool) → result ≡ Err fault
+    → fault ≡ segment.InstanceTwice → (IsErrOf result segment.InstanceTwice → IsTrue held) → held ≡ true
+refused-held result fault held failed is twice = twice (failed ∙ ap Err is)
 
 -- the segment holds a record of its class and instance where the frame has its twin
 pub twin-here : (s : State) (p : Placed) (file body : List ℕ) → s.numbering ≡ None
