@@ -1,17 +1,20 @@
 -- What taking the next item answers, from what its parts answer.
-use Rattle.std.proofs.Common.{◌≡◌, ◌≤◌, ℕ, Bool, true, false, List, [], length, Result, Ok, Err, Option, Some, None, inl, inr, refl, sym, ap}
-use Rattle.std.proofs.Common.{◌∙◌, subst, cond}
+use Rattle.std.proofs.Common.{◌≡◌, ◌+◌, ◌<◌, ◌≤◌, ℕ, Bool, true, false, List, [], length, Result, Ok, Err, Option, Some, None, inl, inr, refl, sym, ap}
+use Rattle.std.proofs.Common.{◌∙◌, subst, cond, arith, ◌∷◌}
 use Rattle.std.specs.Prelude.{◌⊎◌, ◌&&◌, is_none, IsErrAnd, OnErr}
 use Rattle.file_grammar.specs.declared.fault.Fault.{Fault}
 use Rattle.file_grammar.specs.declared.kind.Kind.{Kind}
 use Rattle.file_grammar.specs.declared.kind.Kind.TheVariants.{FrSH, FrSE, FrameH, FrEndOfFrame, FrTOC, FrEndOfFile}
 use Rattle.file_grammar.specs.declared.kind.Kind.TheVariants.{Other}
-use Rattle.file_grammar.specs.Structure.{Structure}
-use Rattle.file_grammar.specs.Kind.{is_table_kind, is_target_kind}
+use Rattle.file_grammar.specs.declared.reason.Reason.{Reason}
+use Rattle.file_grammar.specs.declared.reason.Reason.TheVariants.{RecordLimit, FrameLimit}
+use Rattle.file_grammar.specs.Structure.{Structure, record_limit}
+use Rattle.file_grammar.proofs.Judging.{first_of-heavy, weight_reason-told}
+use Rattle.file_grammar.specs.Kind.{is_table_kind, is_target_kind, is_frame_kind}
 use Rattle.file_grammar.specs.Record.{layout_in}
 use Rattle.file_grammar.specs.Item.{Item, OtherItem}
-use Rattle.file_grammar.specs.Fault.{Here, place, held, class, kind, structure, fault_here}
-use Rattle.file_grammar.specs.Steps.{item_by}
+use Rattle.file_grammar.specs.Fault.{Here, place, held, told, load, weight, class, kind, structure, first_of, fault_at, fault_here}
+use Rattle.file_grammar.specs.Steps.{item_by, reasons_of}
 use Rattle.item_reader.specs.declared.cursor.Cursor.{Cursor}
 use Rattle.item_reader.specs.declared.item.Item.{Item as Given}
 use Rattle.item_reader.specs.declared.item.Item.TheVariants as given
@@ -33,7 +36,7 @@ use Rattle.item_reader.proofs.Collecting.{frame-collected}
 use Rattle.item_reader.specs.Judged.{Takes, ClosesBy}
 use Rattle.item_reader.specs.State.{here_in, before_of, IsSound}
 use Rattle.item_reader.specs.Cursor.{GivesNext, Gives, InFile, table_body, body_in}
-use Rattle.item_reader.proofs.Located.{class-here, body-here}
+use Rattle.item_reader.proofs.Located.{told-here, class-here, body-here, fault-kind}
 
 -- an error that is passed on is the same
 pub err-passed : {T E : Type 0} (r : Result T E) (e : E) (P : Result T E → Type 0) → IsErrAnd r (λ x. x ≡ e) → P (Err e)
@@ -228,3 +231,26 @@ gives-table h item new takes p is placed own order sound none frame looked close
     (subst (λ i. IsFrameOf h.order (before_of new.state) new.state.segment × (new.state.numbering ≡ None)
     → Collects h i (before_of new.state) new.state.numbering new.state.segment) (sym table.3) (λ f. f))
     order sound none frame looked (subst (λ i. ClosesBy i new.state.closed) table.3 closes)
+
+-- ---- a record that is longer than the frame may weigh
+
+weighed_first : (k : Kind) → is_frame_kind k ≡ true
+    → (rs : List Reason) × (reasons_of k ≡ RecordLimit ∷ FrameLimit ∷ rs)
+weighed_first FrameH e = (_, refl)
+weighed_first FrEndOfFrame e = (_, refl)
+weighed_first Other e = (_, refl)
+weighed_first FrSH e = absurd (false≢true e)
+weighed_first FrSE e = absurd (false≢true e)
+weighed_first FrTOC e = absurd (false≢true e)
+weighed_first FrEndOfFile e = absurd (false≢true e)
+
+pub overfull-fault : (h : Here) (p : Placed) → h.before.closed ≡ false → IsPlaced h.order h.file (place h) p
+    → is_frame_kind (kind h) ≡ true → record_limit < load h + p.length
+    → fault_here h ≡ Some (fault_at FrameLimit (place h, 0))
+overfull-fault h p unclosed placed frame over =
+    let first = weighed_first (kind h) frame in
+    let same : told h ≡ p.length = told-here h p placed in
+    fault-kind h p unclosed placed
+    ∙ ap (λ rs. first_of rs h) first.1
+    ∙ first_of-heavy h first.0 FrameLimit frame (omega (arith, same, placed.small))
+    (weight_reason-told (load h) (told h) (weight h) (omega (arith, same, over)))

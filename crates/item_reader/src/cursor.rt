@@ -8,7 +8,7 @@ ghost use Rattle.structure_source.specs.Source.{Stands, GoesOn, IsHead, drawn};
 ghost use Rattle.file_grammar.specs.declared.fault.Fault.{Fault};
 ghost use Rattle.file_grammar.specs.declared.kind.Kind.TheVariants as variant;
 ghost use Rattle.file_grammar.specs.Structure.{record_limit};
-ghost use Rattle.file_grammar.specs.Kind.{kind_of, is_frame_kind};
+ghost use Rattle.file_grammar.specs.Kind.{kind_of, is_frame_kind, is_target_kind};
 ghost use Rattle.file_grammar.specs.Fault.{fault_here};
 ghost use Rattle.item_reader.specs.Placed.{IsStructureAt, IsPlaced, StandsIn, body_of};
 ghost use Rattle.item_reader.specs.Looked.{ReadsTo, IsWithinLook, look};
@@ -65,6 +65,7 @@ impl Cursor {
             Kind::FrSE => self.refuse_element(shelf, placed),
             Kind::FrTOC => self.take_table(shelf, placed),
             Kind::FrEndOfFile => self.take_file_end(shelf, placed),
+            Kind::FrEndOfFrame => self.take_frame_end(shelf, placed),
             kind => self.take_record(shelf, placed, kind),
         }
     }
@@ -216,16 +217,14 @@ impl Cursor {
         Ok(item)
     }
 
-    /// Takes a record of a frame. One that is longer than the frame may weigh is not kept.
-    fn take_record<S: Shelf>(
+    /// Takes the end record of a frame.
+    fn take_frame_end<S: Shelf>(
         &mut self,
         shelf: &mut S,
         placed: Placed,
-        kind: Kind,
     ) -> Result<Item, ReadError>
         requires passed { HasPassed (S.outside shelf.old) self.old placed }
-        requires kind { kind ≡ kind_of self.old.state.dictionary placed.class }
-        requires record { is_frame_kind kind ≡ true }
+        requires kind { kind_of self.old.state.dictionary placed.class ≡ variant.FrEndOfFrame }
         ensures answers { InFile (S.outside shelf.old) self.old (λ h. GivesNext h result self.new) }
         ensures kept { OnOk result (IsKept self.old.state self.new.state) }
         ensures moved { OnOk result (self.old.state.at < self.new.state.at) }
@@ -239,16 +238,69 @@ impl Cursor {
         ensures ahead { OnErr result (InFile (S.outside shelf.old) self.old
             (λ h. IsWithinLook h.order h.file h.before.place (drawn self.new.source))) }
     {
+        self.bring_record(shelf, placed)?;
+        let alloc = *self.own.allocator();
+        self.state.take_frame_end(alloc, placed)
+    }
+
+    /// Takes any other record of a frame.
+    fn take_record<S: Shelf>(
+        &mut self,
+        shelf: &mut S,
+        placed: Placed,
+        kind: Kind,
+    ) -> Result<Item, ReadError>
+        requires passed { HasPassed (S.outside shelf.old) self.old placed }
+        requires kind { kind ≡ kind_of self.old.state.dictionary placed.class }
+        requires target { is_target_kind kind ≡ true }
+        ensures answers { InFile (S.outside shelf.old) self.old (λ h. GivesNext h result self.new) }
+        ensures kept { OnOk result (IsKept self.old.state self.new.state) }
+        ensures moved { OnOk result (self.old.state.at < self.new.state.at) }
+        ensures read { OnOk result (ReadsTo self.new.state.at self.new.looked self.new.source.at) }
+        ensures closed { IfOk result (λ item. ClosesBy item self.new.state.closed) }
+        ensures device { result ≡ Err ReadError.Device
+            → Rose (S.outside shelf.old).faults (S.outside shelf.new).faults }
+        ensures order { self.new.state.segment.order ≡ self.old.state.segment.order }
+        ensures stands { Stands (S.outside shelf.new) self.new.source }
+        ensures on { GoesOn (S.outside shelf.old) (S.outside shelf.new) self.old.source self.new.source }
+        ensures ahead { OnErr result (InFile (S.outside shelf.old) self.old
+            (λ h. IsWithinLook h.order h.file h.before.place (drawn self.new.source))) }
+    {
+        self.bring_record(shelf, placed)?;
+        self.state.take_record(placed, kind)
+    }
+
+    /// Brings the body of a record of a frame. One that is longer than the frame may weigh is passed over.
+    fn bring_record<S: Shelf>(&mut self, shelf: &mut S, placed: Placed) -> Result<(), ReadError>
+        requires passed { HasPassed (S.outside shelf.old) self.old placed }
+        requires kind { is_frame_kind (kind_of self.old.state.dictionary placed.class) ≡ true }
+        ensures fits { OnOk result (self.old.state.load + placed.length ≤ record_limit) }
+        ensures body { OnOk result (InFile (S.outside shelf.old) self.old (λ h.
+            StandsIn h.order h.before.place placed self.new.state.segment.pending h.file)) }
+        ensures size { OnOk result (placed.length ≡ 14 + length self.new.state.segment.pending) }
+        ensures sound { OnOk result (IsSound self.new.state) }
+        ensures before { before_of self.new.state ≡ before_of self.old.state }
+        ensures segment { (self.new.state.segment.order ≡ self.old.state.segment.order)
+            × (self.new.state.segment.nodes ≡ self.old.state.segment.nodes) }
+        ensures rest { self.new ≡ record self.old {
+          source = self.new.source;
+          state = record self.old.state { segment = self.new.state.segment };
+        } }
+        ensures fault { (fault : Fault) → result ≡ Err (ReadError.Fault fault)
+            → InFile (S.outside shelf.old) self.old (λ h. fault_here h ≡ Some fault) }
+        ensures place { OnOk result (self.new.source.at ≡ self.old.state.at + placed.length) }
+        ensures device { result ≡ Err ReadError.Device
+            → Rose (S.outside shelf.old).faults (S.outside shelf.new).faults }
+        ensures stands { Stands (S.outside shelf.new) self.new.source }
+        ensures on { GoesOn (S.outside shelf.old) (S.outside shelf.new) self.old.source self.new.source }
+        ensures ahead { InFile (S.outside shelf.old) self.old
+            (λ h. drawn self.new.source ≤ look h.order h.file h.before.place) }
+    {
         if self.state.is_overfull(placed) {
             let fault = self.state.fault(Reason::FrameLimit);
             return Err(self.pass_over(shelf, placed, fault));
         }
-        self.bring_body(shelf, placed)?;
-        let alloc = *self.own.allocator();
-        match kind {
-            Kind::FrEndOfFrame => self.state.take_frame_end(alloc, placed),
-            kind => self.state.take_record(placed, kind),
-        }
+        self.bring_body(shelf, placed)
     }
 
     /// Brings the body of a record into the segment.
