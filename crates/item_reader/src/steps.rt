@@ -38,6 +38,7 @@ impl State {
             → first_of body_reasons (here_in self.old file) ≡ None
             → DescribesEntry self.old.segment.order file self.old.at entry end
             → Answers (here_in self.old file) result self.new }
+        ensures no_device { result ≡ Err ReadError.Device → ⊥ }
         ensures moved { OnOk result (self.new.at ≡ end) }
         ensures closed { IfOk result (λ item. ClosesBy item self.new.closed) }
         ensures kept { OnOk result (self.old.segment.pending ≡ [] → IsKept self.old self.new) }
@@ -64,6 +65,7 @@ impl State {
             → StandsIn self.old.segment.order self.old.at head body file
             → DescribesEntry self.old.segment.order file self.old.at entry end
             → AnswersHolding (here_in self.old file) result }
+        ensures no_device { result ≡ Err ReadError.Device → ⊥ }
         ensures holds { IfOk result (λ changed. Holds self.old entry changed self.new) }
         ensures below { OnOk result (head.at + head.length ≤ file_limit) }
         ensures order { self.new.segment.order ≡ self.old.segment.order }
@@ -132,6 +134,7 @@ impl State {
         requires size { end.length ≡ 14 + length body.now }
         requires kind { kind_of self.old.dictionary end.class ≡ variant.FrEndOfFile }
         ensures answers { InEachFile self.old end body.now (λ h. Answers h result self.new) }
+        ensures no_device { result ≡ Err ReadError.Device → ⊥ }
         ensures moved { OnOk result (self.new.at ≡ self.old.at + end.length) }
         ensures closed { IfOk result (λ item. ClosesBy item self.new.closed) }
         ensures kept { OnOk result (self.old.segment.pending ≡ [] → IsKept self.old self.new) }
@@ -163,6 +166,7 @@ impl State {
         requires kind { kind_of self.old.dictionary placed.class ≡ variant.FrEndOfFrame }
         requires fits { self.old.load + placed.length ≤ record_limit }
         ensures answers { InEachFile self.old placed self.old.segment.pending (λ h. Answers h result self.new) }
+        ensures no_device { result ≡ Err ReadError.Device → ⊥ }
         ensures moved { OnOk result (self.new.at ≡ self.old.at + placed.length) }
         ensures closed { IfOk result (λ item. ClosesBy item self.new.closed) }
         ensures kept { OnOk result (IsKept self.old self.new) }
@@ -195,6 +199,7 @@ impl State {
         requires target { is_target_kind kind ≡ true }
         requires fits { self.old.load + placed.length ≤ record_limit }
         ensures answers { InEachFile self.old placed self.old.segment.pending (λ h. Answers h result self.new) }
+        ensures no_device { result ≡ Err ReadError.Device → ⊥ }
         ensures moved { OnOk result (self.new.at ≡ self.old.at + placed.length) }
         ensures closed { IfOk result (λ item. ClosesBy item self.new.closed) }
         ensures kept { OnOk result (IsKept self.old self.new) }
@@ -206,7 +211,9 @@ impl State {
         let later = self.record_fault(placed, kind);
         let number = match self.segment.add(node(&self.dictionary, placed)) {
             Ok(number) => number,
-            Err(SegmentFault::InstanceTwice) => return Err(self.fault(Reason::InstanceTwice).into()),
+            Err(SegmentFault::InstanceTwice) => return Err(
+                self.fault(Reason::InstanceTwice).into(),
+            ),
             Err(SegmentFault::NoMemory) => return Err(ReadError::NoMemory),
         };
         if let Some(fault) = later {
