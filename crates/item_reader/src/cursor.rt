@@ -93,7 +93,10 @@ impl Cursor {
         element: Placed,
     ) -> Result<Item, ReadError> {
         self.bring_own(shelf, element)?;
-        Err(self.state.stray_fault(element, self.own.as_slice()).into())
+        Err(self
+            .state
+            .stray_fault(element, self.own.as_slice())
+            .into())
     }
 
     /// Takes a contents table. Its body is kept where its layout is readable, and never judged.
