@@ -1,3 +1,7 @@
+pub mod Begun
+pub mod Candidates
 pub mod Growing
 pub mod Located
+pub mod Looking
 pub mod Parts
+pub mod Runs
