@@ -1,5 +1,5 @@
 -- An FrSE behind an FrSH: the element that it is, that none stands there, and the fault where one is wrong.
-use Rattle.std.proofs.Common.{◌≡◌, ℕ, ◌+◌, ◌-◌, ◌<◌, ◌≤◌, ◌&&◌, true, false, List, [], ◌∷◌, map, length, take, drop}
+use Rattle.std.proofs.Common.{◌≡◌, ℕ, ◌+◌, ◌-◌, ◌<◌, ◌≤◌, ◌&&◌, Bool, true, false, List, [], ◌∷◌, map, length, take, drop}
 use Rattle.std.proofs.Common.{Option, Some, None, refl, sym, ap, ◌∙◌, subst, arith}
 use Rattle.std.specs.Prelude.{nat_le, ◌==◌, slice_range, slice_get}
 use Rattle.std.proofs.lemmas.List.{drop-drop}
@@ -99,7 +99,7 @@ pub record IsCandidate (at : ℕ) (common : Common) : Type 0 where
   pub small : common.length ≤ record_limit
   pub within : at + common.length ≤ file_limit
 
-pub candidate : (at : ℕ) (common : Common) → may_be_element at common ≡ true → IsCandidate at common
+candidate : (at : ℕ) (common : Common) → may_be_element at common ≡ true → IsCandidate at common
 candidate at common may =
     let a = and_parts (common.class == 2) (nat_le 14 common.length
     && (nat_le common.length record_limit && nat_le (at + common.length) file_limit)) may in
@@ -112,6 +112,12 @@ candidate at common may =
       small = leb-true common.length record_limit c.0;
       within = leb-true (at + common.length) file_limit c.1;
     }
+
+-- the code's test of it
+pub candidate-tested : (at place : ℕ) (common : Common) (test : Bool) → place ≡ at → test ≡ may_be_element place common
+    → test ≡ true → IsCandidate at common
+candidate-tested at place common test here is may =
+    candidate at common (ap (λ at. may_be_element at common) (sym here) ∙ sym is ∙ may)
 
 -- the structure that a head and the bytes behind it are
 pub placed-brought : (order : Order) (file : List ℕ) (at : ℕ) (common : Common) (body : List ℕ)

@@ -1,4 +1,5 @@
 pub mod Begun
+pub mod Bringing
 pub mod Candidates
 pub mod Growing
 pub mod Located

@@ -1,10 +1,9 @@
 -- How far the look of a place goes.
-use Rattle.std.proofs.Common.{◌≡◌, ℕ, ◌+◌, ◌≤◌, ◌⊎◌, inl, inr, Bool, true, false, ◌&&◌, cond, List, arith, subst, sym}
+use Rattle.std.proofs.Common.{◌≡◌, ℕ, ◌+◌, ◌≤◌, Bool, true, false, ◌&&◌, cond, List, refl, arith}
 use Rattle.std.specs.Prelude.{nat_le}
 use Rattle.std.proofs.lemmas.Bool.{leb-true, le-leb, and_parts, and_from, cond-true}
 use Rattle.scalar_types.specs.declared.Order.{Order}
 use Rattle.file_grammar.specs.Structure.{record_limit, common_at, left_at}
-use Rattle.file_grammar.proofs.Lengths.{Fits}
 use Rattle.item_reader.specs.Looked.{tells_length, look}
 
 -- it goes beyond the 14 bytes there
