@@ -5,4 +5,5 @@ pub mod Growing
 pub mod Located
 pub mod Looking
 pub mod Parts
+pub mod Running
 pub mod Runs
