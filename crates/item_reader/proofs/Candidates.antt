@@ -7,7 +7,6 @@ use Rattle.std.proofs.lemmas.Bool.{leb-true, le-leb, eq-eqb, eqb-true, and_from,
 use Rattle.std.proofs.lemmas.Bool.{lt-ltb, le-ltb}
 use Rattle.scalar_types.specs.declared.Order.{Order}
 use Rattle.type_text.specs.TypeText.{type_of}
-use Rattle.record_values.specs.declared.values.Value.{Value}
 use Rattle.record_values.specs.declared.values.Value.TheVariants as value
 use Rattle.frame_head.specs.declared.structure.Common.{Common}
 use Rattle.structure_source.specs.declared.source.Head.TheVariants.{Whole}
@@ -19,11 +18,10 @@ use Rattle.layout_plan.specs.Lent.{HasTextAt}
 use Rattle.layout_plan.specs.Reading.{fault_of}
 use Rattle.layout_plan.specs.BuiltIn.{element_fields}
 use Rattle.file_grammar.specs.declared.reason.Reason.TheVariants.{CutRecord, StrayElement}
-use Rattle.file_grammar.specs.declared.fault.Fault.{Fault}
 use Rattle.file_grammar.specs.declared.kind.Kind.TheVariants.{FrSE}
 use Rattle.file_grammar.specs.Structure.{Structure, record_limit, file_limit, common_at, left_at, structure_at, end_of}
 use Rattle.file_grammar.specs.Kind.{kind_of}
-use Rattle.file_grammar.specs.Described.{element_at, IsElement}
+use Rattle.file_grammar.specs.Described.{element_at}
 use Rattle.file_grammar.specs.Item.{Before, nothing_yet}
 use Rattle.file_grammar.specs.Fault.{Here, place, held, class, kind, fault_at, fault_here}
 use Rattle.file_grammar.specs.Steps.{length_reason, reason_of}

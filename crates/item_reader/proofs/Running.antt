@@ -1,10 +1,10 @@
 -- A source that reads the run of FrSEs from a place on, one by one.
-use Rattle.std.proofs.Common.{◌≡◌, ℕ, ◌+◌, ◌<◌, ◌≤◌, List, [], ◌∷◌, ◌++◌, length, take, max, Some, None, sym, ap, ◌∙◌}
+use Rattle.std.proofs.Common.{◌≡◌, ℕ, ◌<◌, ◌≤◌, List, [], ◌∷◌, ◌++◌, length, max, sym, ◌∙◌}
 use Rattle.std.proofs.Common.{subst, arith}
 use Rattle.std.proofs.lemmas.List.Elements.{All-nil, All-push}
 use Rattle.scalar_types.specs.declared.Order.{Order}
-use Rattle.frame_outside.specs.Shelf.{Outside, Reading, Told, reading_at}
-use Rattle.structure_source.specs.Source.{Position, Stands, GoesOn, drawn}
+use Rattle.frame_outside.specs.Shelf.{Outside, Told, reading_at}
+use Rattle.structure_source.specs.Source.{Position, Stands, GoesOn}
 use Rattle.structure_source.proofs.Going.{goes-none, goes-more, at-now, within-file}
 use Rattle.dictionary.specs.declared.entries.Element.{Element}
 use Rattle.dictionary.specs.Same.{IsRead, AreRead}
@@ -12,7 +12,6 @@ use Rattle.file_grammar.specs.Structure.{file_limit}
 use Rattle.item_reader.specs.declared.looked.Looked.{Looked}
 use Rattle.item_reader.specs.declared.entries.Next.{Next}
 use Rattle.item_reader.specs.declared.entries.Next.TheVariants.{Element as Belongs, Ended}
-use Rattle.item_reader.specs.declared.entries.Run.{Run}
 use Rattle.item_reader.specs.Looked.{IsLooked, look}
 use Rattle.item_reader.specs.Judged.{kept_elements}
 use Rattle.item_reader.specs.Entries.{IsNext, MovesTo, HasReadElement, IsRun, end_from}

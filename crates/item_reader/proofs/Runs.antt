@@ -7,7 +7,7 @@ use Rattle.std.proofs.lemmas.List.{take_all, take-append-le}
 use Rattle.std.proofs.lemmas.List.Sums.{sum_by-cons}
 use Rattle.scalar_types.specs.declared.Order.{Order}
 use Rattle.dictionary.specs.declared.entries.Element.{Element}
-use Rattle.file_grammar.specs.Structure.{Structure, size_of, end_of, common_at, structure_at}
+use Rattle.file_grammar.specs.Structure.{Structure, size_of, end_of, structure_at}
 use Rattle.file_grammar.specs.Described.{element_at, longest_run}
 use Rattle.file_grammar.proofs.Structures.{stands-fits}
 use Rattle.file_grammar.proofs.Elements.{element-found}

@@ -85,11 +85,8 @@ pub fn read_run<S: Shelf>(
     loop {
         let end = source.place();
         match next_element(alloc, source, shelf, order, plan, own)? {
-            Next::Element(element) => {
-                if elements.len() < KEPT_ELEMENTS {
-                    elements.push(element)?;
-                }
-            }
+            Next::Element(element) if elements.len() < KEPT_ELEMENTS => elements.push(element)?,
+            Next::Element(_) => {}
             Next::Ended(looked) => {
                 return Ok(Run {
                     elements,
@@ -162,12 +159,7 @@ fn wrong(at: u64, field: u32, reason: Reason) -> Next
 }
 
 /// The element that a body spells.
-fn element_in(
-    alloc: Global,
-    order: Order,
-    plan: &Plan,
-    body: &[u8],
-) -> Result<Element, AllocError>
+fn element_in(alloc: Global, order: Order, plan: &Plan, body: &[u8]) -> Result<Element, AllocError>
     requires plan { plan.now ≡ element_fields }
     requires reads { HasBody order element_fields body.now }
     ensures spelled { IfOk result (λ element. Elements order body.now (Some element)) }

@@ -1,20 +1,15 @@
 -- Each step of the source, and the structure that the head and the bytes brought are.
-use Rattle.std.proofs.Common.{◌≡◌, ℕ, ◌+◌, ◌-◌, ◌<◌, ◌≤◌, [], List, length, true, false, Ok, Some, None, refl, ap, sym}
-use Rattle.std.proofs.Common.{◌∙◌, subst, arith}
-use Rattle.structure_source.specs.declared.source.Head.TheVariants.{Whole}
-use Rattle.structure_source.specs.Source.{IsHead, drawn}
+use Rattle.std.proofs.Common.{◌≡◌, ◌+◌, ◌-◌, ◌<◌, length, Some, ap}
+use Rattle.std.proofs.Common.{subst, arith}
 use Rattle.structure_source.proofs.Going.{goes-more, at-now}
 use Rattle.layout_plan.specs.Reading.{fault_of}
-use Rattle.layout_plan.specs.BuiltIn.{element_fields}
 use Rattle.file_grammar.specs.declared.reason.Reason.TheVariants.{CutRecord}
 use Rattle.file_grammar.specs.Structure.{left_at}
 use Rattle.file_grammar.specs.Fault.{fault_at}
 use Rattle.file_grammar.specs.Steps.{reason_of}
 use Rattle.item_reader.specs.declared.entries.Next.TheVariants.{Ended}
 use Rattle.item_reader.specs.declared.looked.Looked.TheVariants.{Wrong}
-use Rattle.item_reader.specs.Placed.{IsPlaced, placed_at, body_of}
-use Rattle.item_reader.specs.Looked.{look}
-use Rattle.item_reader.specs.Entries.{may_be_element}
+use Rattle.item_reader.specs.Placed.{placed_at}
 use Rattle.item_reader.proofs.Candidates.{candidate-tested, none-short, none-unread, fault-cut_body, fault-unread}
 use Rattle.item_reader.proofs.Candidates.{placed-end}
 use Rattle.item_reader.proofs.Bringing.{head-whole, passes-whole, short-of, placed-read, look-brought, look-within}

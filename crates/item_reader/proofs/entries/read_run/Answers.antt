@@ -7,15 +7,15 @@ use Rattle.item_reader.proofs.entries.read_run.Goals as goal
 pub loop-elements-init : goal.loop-elements-init
 loop-elements-init g c = running-begin c.args.order _ _ _ c.requires.stands c.new-elements.ensures
 
-pub loop-elements-preserved-in-Continue-branch-3 : goal.loop-elements-preserved-in-Continue-branch-3
-loop-elements-preserved-in-Continue-branch-3 g c =
+pub loop-elements-preserved-then-len-lt-KEPT_ELEMENTS : goal.loop-elements-preserved-then-len-lt-KEPT_ELEMENTS
+loop-elements-preserved-then-len-lt-KEPT_ELEMENTS g c =
     running-kept c.args.order _ _ _ _ _ _ _ _ c.in-Element.element c.in_ok-element.field-0 c.loop-elements.invariant
     c.in-Element.is c.in_ok-element.ensures.found c.in_ok-element.ensures.moves c.in_ok-element.ensures.read
     c.next_element.ensures.stands c.next_element.ensures.on
     (omega (arith, c.len.ensures, c.if-len-lt-KEPT_ELEMENTS.true)) c.in_ok-push-in-Element.ensures.ok
 
-pub loop-elements-preserved : goal.loop-elements-preserved
-loop-elements-preserved g c =
+pub loop-elements-preserved-in-Element-2 : goal.loop-elements-preserved-in-Element-2
+loop-elements-preserved-in-Element-2 g c =
     running-passed c.args.order _ _ _ _ _ _ _ c.in-Element.element c.in_ok-element.field-0 c.loop-elements.invariant
     c.in-Element.is c.in_ok-element.ensures.found c.in_ok-element.ensures.moves
     c.next_element.ensures.stands c.next_element.ensures.on
