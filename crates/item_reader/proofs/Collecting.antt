@@ -24,16 +24,19 @@ all-bodied order held (r ∷ rs) all =
     λ i. record-bodied order held r (all 0 r (omega arith)) i
     ∷ all-bodied order held rs (λ k d lt. all (suc k) d (omega (arith, lt))) i
 
+-- the records of the open frame, as the segment has them
+pub open-nodes : (s : State) → IsSound s → s.numbering ≡ None
+    → s.segment.nodes ≡ map (bodied_of s.dictionary) (frame_of s)
+open-nodes s sound open_is =
+    sym (ap (λ n. map (bodied_of s.dictionary) (open_records n s.segment)) open_is
+    ∙ all-bodied s.segment.order s.dictionary s.segment.nodes (sound.frame open_is).records)
+
 -- what is kept of the open frame
 pub frame-collected : (order : Order) (s : State) → s.segment.order ≡ order → IsSound s → s.numbering ≡ None
     → s.segment.pending ≡ [] → IsFrameOf order (before_of s) s.segment
-frame-collected order s same sound open_is none =
-    let is : IsOpen s = sound.frame open_is in
-    let frame : frame_of s ≡ map structure_of s.segment.nodes = ap (λ n. open_records n s.segment) open_is in
-    record {
-      order_is = same;
-      nodes = sym (ap (map (bodied_of s.dictionary)) frame
-          ∙ all-bodied s.segment.order s.dictionary s.segment.nodes is.records);
-      end_record = is.end_record;
-      pending = none;
-    }
+frame-collected order s same sound open_is none = record {
+  order_is = same;
+  nodes = open-nodes s sound open_is;
+  end_record = (sound.frame open_is).end_record;
+  pending = none;
+}

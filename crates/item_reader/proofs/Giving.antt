@@ -136,12 +136,12 @@ gives-open h item new takes body collects order sound none frame looked unclosed
 
 -- ---- what is given of a structure of a kind
 
-tells-other : (h : Here) (taken : Item) (item : Given) (k : Kind) → Tells h taken item → taken ≡ OtherItem (structure h)
+pub tells-other : (h : Here) (taken : Item) (item : Given) (k : Kind) → Tells h taken item → taken ≡ OtherItem (structure h)
     → kind h ≡ k → TellsKind k h (structure h) item
 tells-other h taken item k tells other is =
     subst (λ k. TellsKind k h (structure h) item) is (subst (λ i. Tells h i item) other tells)
 
-table-item : (h : Here) (s : Structure) (item : Given) → TellsKind FrTOC h s item
+pub table-item : (h : Here) (s : Structure) (item : Given) → TellsKind FrTOC h s item
     → (at : ℕ) × (class : ℕ) × (size : ℕ) × (item ≡ given.Table at class size)
 table-item h s (given.Table at class size) t = (at, class, size, refl)
 table-item h s (given.Entry at class changed) t = absurd t
@@ -149,7 +149,7 @@ table-item h s (given.Plain at class instance node) t = absurd t
 table-item h s (given.FrameEnd at class) t = absurd t
 table-item h s (given.FileEnd at class size seek) t = absurd t
 
-file_end-item : (h : Here) (s : Structure) (item : Given) → TellsKind FrEndOfFile h s item
+pub file_end-item : (h : Here) (s : Structure) (item : Given) → TellsKind FrEndOfFile h s item
     → (at : ℕ) × (class : ℕ) × (size : ℕ) × (seek : ℕ) × (item ≡ given.FileEnd at class size seek)
 file_end-item h s (given.FileEnd at class size seek) t = (at, class, size, seek, refl)
 file_end-item h s (given.Entry at class changed) t = absurd t
@@ -157,7 +157,7 @@ file_end-item h s (given.Plain at class instance node) t = absurd t
 file_end-item h s (given.FrameEnd at class) t = absurd t
 file_end-item h s (given.Table at class size) t = absurd t
 
-frame_end-item : (h : Here) (s : Structure) (item : Given) → TellsKind FrEndOfFrame h s item
+pub frame_end-item : (h : Here) (s : Structure) (item : Given) → TellsKind FrEndOfFrame h s item
     → (at : ℕ) × (class : ℕ) × (item ≡ given.FrameEnd at class)
 frame_end-item h s (given.FrameEnd at class) t = (at, class, refl)
 frame_end-item h s (given.Entry at class changed) t = absurd t
@@ -165,7 +165,7 @@ frame_end-item h s (given.Plain at class instance node) t = absurd t
 frame_end-item h s (given.Table at class size) t = absurd t
 frame_end-item h s (given.FileEnd at class size seek) t = absurd t
 
-record-item : (h : Here) (s : Structure) (item : Given) (k : Kind) → is_target_kind k ≡ true → TellsKind k h s item
+pub record-item : (h : Here) (s : Structure) (item : Given) (k : Kind) → is_target_kind k ≡ true → TellsKind k h s item
     → (at : ℕ) × (class : ℕ) × (instance : ℕ) × (item ≡ given.Plain at class instance (length h.before.frame))
 record-item h s (given.Plain at class instance node) FrameH e t = (at, class, instance, λ i. given.Plain at class instance (t.3 i))
 record-item h s (given.Plain at class instance node) Other e t = (at, class, instance, λ i. given.Plain at class instance (t.3 i))

@@ -20,3 +20,4 @@ pub mod Twins
 pub mod Collecting
 pub mod Running
 pub mod Runs
+pub mod Recording
