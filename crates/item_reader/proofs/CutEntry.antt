@@ -1,6 +1,8 @@
 -- An entry of more elements than one may have is answered alike whole and with its first elements alone.
-use Rattle.std.proofs.Common.{◌≡◌, ℕ, ◌<◌, ◌≤◌, Bool, true, false, cond, ◌&&◌, List, [], ◌∷◌, ◌++◌, length, take}
-use Rattle.std.proofs.Common.{Option, Some, None, Result, Ok, Err, refl, sym, ap, ◌∙◌, arith, length-take, is_some}
+use Rattle.std.proofs.Common.{◌≡◌, ℕ, ◌<◌, ◌≤◌, Bool, true, false, cond, ◌&&◌, List, [], ◌∷◌, ◌++◌, length}
+use Rattle.std.proofs.Common.{take}
+use Rattle.std.proofs.Common.{Option, Some, None, Result, Ok, Err, refl, sym, ap, ◌∙◌, arith, length-take}
+use Rattle.std.proofs.Common.{is_some}
 use Rattle.std.specs.Prelude.{◌==◌, nat_lt}
 use Rattle.std.specs.Cmp.Lexicographic.{pointwise}
 use Rattle.std.specs.Str.{bytes_eq}
@@ -9,8 +11,10 @@ use Rattle.std.proofs.lemmas.List.{take_all}
 use lib.Pointwise.{pointwise_long}
 use Rattle.dictionary.specs.declared.entries.Entry.{Entry}
 use Rattle.dictionary.specs.declared.held.AddFault.{AddFault}
-use Rattle.dictionary.specs.declared.held.AddFault.TheVariants.{ClassRange, Redefined, NameTwice, ElementLimit}
-use Rattle.dictionary.specs.Dictionary.{entry_of, class_named, is_built_in, is_out_of_range, is_too_long, step, step_by}
+use Rattle.dictionary.specs.declared.held.AddFault.TheVariants.{ClassRange, Redefined, NameTwice}
+use Rattle.dictionary.specs.declared.held.AddFault.TheVariants.{ElementLimit}
+use Rattle.dictionary.specs.Dictionary.{entry_of, class_named, is_built_in, is_out_of_range, is_too_long}
+use Rattle.dictionary.specs.Dictionary.{step, step_by}
 use Rattle.dictionary.specs.Dictionary.{IsDictionary}
 use Rattle.dictionary.specs.Same.{same_element, same_entries}
 use Rattle.item_reader.specs.Judged.{kept_elements, cut_entry}
@@ -20,7 +24,8 @@ use Rattle.item_reader.specs.Judged.{kept_elements, cut_entry}
 cut-short : (e : Entry) → is_too_long e ≡ false → cut_entry e ≡ e
 cut-short e short =
     let few : length e.elements ≤ 4096 = ltb-false 4096 (length e.elements) short in
-    let same : take kept_elements e.elements ≡ e.elements = take_all kept_elements e.elements (omega (arith, few)) in
+    let same : take kept_elements e.elements ≡ e.elements =
+    take_all kept_elements e.elements (omega (arith, few)) in
     λ i. record e { elements = same i }
 
 cut-long : (e : Entry) → is_too_long e ≡ true → is_too_long (cut_entry e) ≡ true
@@ -78,7 +83,8 @@ long-refused held e sound long = built (is_built_in e.class) refl
         (other-long held old e ((sound high).entries e.class old there).short long)
 
     ranged : (b : Bool) → is_out_of_range e.class ≡ b
-        → ◌≡◌ {A = Result (List Entry) AddFault} (cond b (Err ClassRange) (step_by (entry_of held e.class) held e))
+        → ◌≡◌ {A = Result (List Entry) AddFault}
+        (cond b (Err ClassRange) (step_by (entry_of held e.class) held e))
         (Err (cond b ClassRange (refused_by (entry_of held e.class) held e.name)))
     ranged true out = refl
     ranged false out = found (high out) (entry_of held e.class) refl
@@ -100,11 +106,13 @@ pub step-cut : (held : List Entry) (e : Entry) → (e.class ≤ 255 → IsDictio
 step-cut held e sound = by (is_too_long e) refl
   where
     by : (b : Bool) → is_too_long e ≡ b → step held (cut_entry e) ≡ step held e
-    by true long = long-refused held (cut_entry e) sound (cut-long e long) ∙ sym (long-refused held e sound long)
+    by true long = long-refused held (cut_entry e) sound (cut-long e long)
+        ∙ sym (long-refused held e sound long)
     by false short = ap (step held) (cut-short e short)
 
 -- what is taken is short
-pub taken-short : (held next : List Entry) (e : Entry) → (e.class ≤ 255 → IsDictionary held) → step held e ≡ Ok next
+pub taken-short : (held next : List Entry) (e : Entry) → (e.class ≤ 255 → IsDictionary held)
+    → step held e ≡ Ok next
     → length e.elements ≤ 4096
 taken-short held next e sound is = by (is_too_long e) refl
   where
@@ -112,7 +120,8 @@ taken-short held next e sound is = by (is_too_long e) refl
     unlike f e = cc
 
     by : (b : Bool) → is_too_long e ≡ b → length e.elements ≤ 4096
-    by true long = absurd (unlike (refused_long held e.class e.name) (sym (long-refused held e sound long) ∙ is))
+    by true long = absurd (unlike (refused_long held e.class e.name)
+        (sym (long-refused held e sound long) ∙ is))
     by false short = ltb-false 4096 (length e.elements) short
 
 -- and a cut that is short has cut nothing

@@ -1,5 +1,6 @@
 -- An entry that the dictionary is given: what was held before, and what it holds and the plans are after it.
-use Rattle.std.proofs.Common.{◌≡◌, inl, inr, ℕ, ◌+◌, ◌≤◌, true, false, List, [], ◌∷◌, ◌++◌, Option, Some, None, Result}
+use Rattle.std.proofs.Common.{◌≡◌, inl, inr, ℕ, ◌+◌, ◌≤◌, true, false, List, [], ◌∷◌, ◌++◌, Option, Some}
+use Rattle.std.proofs.Common.{None, Result}
 use Rattle.std.proofs.Common.{Ok, Err, IfOk, IfErr, OnOk, refl, sym, ap, ◌∙◌, subst, is_some, arith}
 use Rattle.std.specs.Prelude.{nat_eq, nat_lt, IfSome}
 use Rattle.std.specs.Option.{option_map_or}
@@ -40,8 +41,10 @@ use Rattle.item_reader.proofs.Located.{told-here, class-here}
 -- ---- what the dictionary answers
 
 -- what is added without a fault is the step
-pub step-added : {U : Type 0} (held : List Entry) (e : Entry) (result : Result U AddFault) (new : List Entry) (u : U)
-    → IfErr (step held e) (λ fault. result ≡ Err fault) → IfOk (step held e) (λ next. OnOk result (new ≡ next))
+pub step-added : {U : Type 0} (held : List Entry) (e : Entry) (result : Result U AddFault) (new : List Entry)
+    (u : U)
+    → IfErr (step held e) (λ fault. result ≡ Err fault)
+    → IfOk (step held e) (λ next. OnOk result (new ≡ next))
     → result ≡ Ok u → step held e ≡ Ok new
 step-added {U} held e result new u refused accepted ok = by (step held e) refl refused accepted
   where
@@ -58,7 +61,8 @@ step-added {U} held e result new u refused accepted ok = by (step held e) refl r
         let same : new ≡ next = subst (λ r. OnOk r (new ≡ next)) ok good in
         is ∙ ap Ok (sym same)
 
-pub class-stepped : (held : List Entry) (e : Entry) (next : List Entry) → step held e ≡ Ok next → e.class ≤ 255
+pub class-stepped : (held : List Entry) (e : Entry) (next : List Entry) → step held e ≡ Ok next
+    → e.class ≤ 255
 class-stepped held e next is = elim (step-cases held e next is) [
   | inl stays ↦ stays.0
   | inr grows ↦ grows.0
@@ -85,7 +89,8 @@ pub unchanged-none : (held : List Entry) (e : Entry) (next : List Entry) → ste
     → entry_of next e.class ≡ None → next ≡ held
 unchanged-none held e next is none = elim (step-cases held e next is) [
   | inl stays ↦ stays.1
-  | inr grows ↦ absurd (none-some e (sym none ∙ ap (λ d. entry_of d e.class) grows.1 ∙ entry_of-own held e grows.2))
+  | inr grows ↦ absurd (none-some e
+      (sym none ∙ ap (λ d. entry_of d e.class) grows.1 ∙ entry_of-own held e grows.2))
 ]
 
 pub unchanged-known : (held : List Entry) (e : Entry) (next : List Entry) → step held e ≡ Ok next
@@ -130,10 +135,12 @@ pub answers-refused : {U : Type 0} (s : State) (p : Placed) (entry : Entry) (res
     → kind_of s.dictionary p.class ≡ FrSH → result ≡ Err fault
     → IfErr (step s.dictionary entry) (λ fault. result ≡ Err fault)
     → OnOk (step s.dictionary entry) (IsOkUnless result add.NoMemory)
-    → error ≡ option_map_or (λ reason. errors.Fault (fault_at reason (s.at, 0))) (refusal_reason fault) errors.NoMemory
+    → error ≡ option_map_or (λ reason. errors.Fault (fault_at reason (s.at, 0))) (refusal_reason fault)
+    errors.NoMemory
     → (file body : List ℕ) (end : ℕ) → StandsIn s.segment.order s.at p body file
     → DescribesEntry s.segment.order file s.at entry end → AnswersHolding (here_in s file) (Err error)
-answers-refused {U} s p entry result fault error sound is failed refused memory error_is file body end stands d =
+answers-refused {U} s p entry result fault error sound is failed refused memory error_is file body end stands
+    d =
     by (step s.dictionary entry) (refusal-here s p entry file body end sound is stands d) refused memory
   where
     h : Here
@@ -143,7 +150,8 @@ answers-refused {U} s p entry result fault error sound is failed refused memory 
     same f g e = cc
 
     told_of : (f : AddFault) → refusal h ≡ Some f
-        → AnswersHolding h (Err (option_map_or (λ (r : Reason). errors.Fault (fault_at r (s.at, 0))) (refusal_reason f)
+        → AnswersHolding h (Err (option_map_or (λ (r : Reason). errors.Fault (fault_at r (s.at, 0)))
+        (refusal_reason f)
         errors.NoMemory))
     told_of add.ClassRange e = first_of-refused h (FileLimit ∷ []) add.ClassRange _ e refl
     told_of add.Redefined e = first_of-refused h (FileLimit ∷ []) add.Redefined _ e refl
@@ -174,7 +182,8 @@ pub answers-beyond : (s : State) (p : Placed) (entry : Entry) (next : List Entry
 answers-beyond s p entry next error sound is stepped beyond error_is file body end stands d =
     let h : Here = here_in s file in
     answers-fault h (fault_at FileLimit (s.at, 0)) error error_is
-    (first_of-taken h (FileLimit ∷ []) (refusal-here s p entry file body end sound is stands d ∙ ap err_of stepped)
+    (first_of-taken h (FileLimit ∷ [])
+    (refusal-here s p entry file body end sound is stands d ∙ ap err_of stepped)
     ∙ first_of-holds FileLimit [] h (s.at, 0) (ap (here h) (beyond-here h p stands.placed ∙ beyond)))
 
 -- an entry that is taken
@@ -185,7 +194,8 @@ pub answers-taken : (s : State) (p : Placed) (entry : Entry) (next : List Entry)
     → DescribesEntry s.segment.order file s.at entry end → first_of entry_reasons (here_in s file) ≡ None
 answers-taken s p entry next sound is stepped within file body end stands d =
     let h : Here = here_in s file in
-    first_of-taken h (FileLimit ∷ []) (refusal-here s p entry file body end sound is stands d ∙ ap err_of stepped)
+    first_of-taken h (FileLimit ∷ [])
+    (refusal-here s p entry file body end sound is stands d ∙ ap err_of stepped)
     ∙ first_of-passes FileLimit [] h (ap (here h) (beyond-here h p stands.placed ∙ within))
 
 -- ---- what is held
@@ -193,7 +203,8 @@ answers-taken s p entry next sound is stepped within file body end stands d =
 -- the dictionary stays as it was
 pub holds-unchanged : (s : State) (entry : Entry) (next : List Entry)
     → ((class : ℕ) → plan_of s.plans class ≡ layout_in s.dictionary class)
-    → (entry.class ≤ 255 → IsDictionary s.dictionary) → step s.dictionary entry ≡ Ok next → next ≡ s.dictionary
+    → (entry.class ≤ 255 → IsDictionary s.dictionary) → step s.dictionary entry ≡ Ok next
+    → next ≡ s.dictionary
     → Holds s entry false (record s { dictionary = next })
 holds-unchanged s entry next plans sound stepped same = record {
   step_is = stepped;
@@ -230,7 +241,8 @@ holds-grown s entry x next learned plans sound stepped fresh held read unread = 
         → (layout_of entry.elements ≡ None → learned ≡ s.plans) → (class : ℕ)
         → plan_of learned class ≡ layout_in next class
     by None layout read unread class =
-        ap (λ ps. plan_of ps class) (unread layout) ∙ plans-unread s.plans s.dictionary entry plans fresh layout class
+        ap (λ ps. plan_of ps class) (unread layout)
+        ∙ plans-unread s.plans s.dictionary entry plans fresh layout class
         ∙ ap (λ d. layout_in d class) (sym g.next_is)
     by (Some fs) layout read unread class =
         ap (λ ps. plan_of ps class) read ∙ plans-read s.plans s.dictionary entry fs plans fresh layout class

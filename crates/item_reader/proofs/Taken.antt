@@ -1,29 +1,31 @@
 -- What an item was, once it was taken: what is told of it, and what stands before the next place.
-use Rattle.std.proofs.Common.{◌≡◌, ◌≢◌, ◌↔◌, ℕ, ◌+◌, ◌<◌, ◌≤◌, Bool, true, false, not, List, [], ◌∷◌, ◌++◌, map}
-use Rattle.std.proofs.Common.{length, drop, Option, Some, None, Result, Ok, Err, refl, sym, ap, ◌∙◌, subst, arith}
-use Rattle.std.proofs.Common.{length-append, sum_by}
+use Rattle.std.proofs.Common.{◌≡◌, ◌≢◌, ◌↔◌, ℕ, ◌+◌, ◌≤◌, Bool, true, false, List, [], ◌∷◌, ◌++◌}
+use Rattle.std.proofs.Common.{map}
+use Rattle.std.proofs.Common.{length, Some, None, Result, Ok, Err, refl, sym, ap, ◌∙◌, subst}
+use Rattle.std.proofs.Common.{sum_by}
 use Rattle.std.specs.Prelude.{IsTrue, codes, IsErrAnd, IsErrOf}
 use Rattle.std.specs.Option.{option_map}
 use Rattle.std.proofs.lemmas.List.{map-append, length-map}
 use Rattle.std.proofs.lemmas.List.Sums.{sum_by-cons}
 use Rattle.std.proofs.lemmas.Bool.{false≢true}
-use Rattle.std.proofs.lemmas.Option.{none-some}
 use Rattle.dictionary.specs.declared.entries.Element.{Element}
 use Rattle.dictionary.specs.declared.entries.Entry.{Entry}
 use Rattle.link_graph.specs.declared.segment.SegmentFault.{SegmentFault}
 use Rattle.link_graph.specs.declared.segment.SegmentFault.TheVariants as segment
-use Rattle.link_graph.specs.Collected.{Bodied, Collected, Becomes, with_node, is_held}
-use Rattle.file_grammar.specs.declared.reason.Reason.{Reason}
+use Rattle.link_graph.specs.Collected.{Collected, Becomes, with_node, is_held}
 use Rattle.file_grammar.specs.declared.reason.Reason.TheVariants.{InstanceTwice}
 use Rattle.file_grammar.specs.declared.fault.Fault.{Fault}
 use Rattle.file_grammar.specs.declared.kind.Kind.{Kind}
-use Rattle.file_grammar.specs.declared.kind.Kind.TheVariants.{FrSH, FrSE, FrameH, FrEndOfFrame, FrTOC, FrEndOfFile}
+use Rattle.file_grammar.specs.declared.kind.Kind.TheVariants.{FrSH, FrSE, FrameH, FrEndOfFrame, FrTOC}
+use Rattle.file_grammar.specs.declared.kind.Kind.TheVariants.{FrEndOfFile}
 use Rattle.file_grammar.specs.declared.kind.Kind.TheVariants.{Other}
-use Rattle.file_grammar.specs.Structure.{Structure, size_of, end_of, structure_at}
+use Rattle.file_grammar.specs.Structure.{Structure, size_of, end_of}
 use Rattle.file_grammar.specs.Kind.{kind_of, is_target_kind}
-use Rattle.file_grammar.specs.Described.{longest_run, entry_from}
-use Rattle.file_grammar.specs.Item.{Item, EntryItem, OtherItem, Before, dictionary_by, dictionary_after, after_kind}
-use Rattle.file_grammar.specs.Fault.{Here, place, class, kind, structure, weight, number, here, fault_at, has_twin}
+use Rattle.file_grammar.specs.Described.{longest_run}
+use Rattle.file_grammar.specs.Item.{EntryItem, OtherItem, Before, dictionary_by, dictionary_after}
+use Rattle.file_grammar.specs.Item.{after_kind}
+use Rattle.file_grammar.specs.Fault.{Here, class, kind, structure, weight, number, here, fault_at}
+use Rattle.file_grammar.specs.Fault.{has_twin}
 use Rattle.file_grammar.specs.Fault.{first_of, fault_here}
 use Rattle.file_grammar.specs.Steps.{item_by}
 use Rattle.file_grammar.proofs.Firsts.{first_of-passes}
@@ -38,12 +40,15 @@ use Rattle.item_reader.specs.Placed.{StandsIn, structure_by}
 use Rattle.item_reader.specs.Given.{TellsKind}
 use Rattle.item_reader.specs.State.{structure_of, open_records, frame_of, before_of, here_in}
 use Rattle.item_reader.specs.Judged.{body_reasons, weighing_reasons, record_reasons, later_record_reasons}
-use Rattle.item_reader.specs.Judged.{frame_end_reasons, reading_reasons, closing_reasons, table_reasons, entry_reasons}
-use Rattle.item_reader.specs.Judged.{IsWeighed, DescribesEntry, Holds, Takes, Answers, AnswersHolding, node_by}
+use Rattle.item_reader.specs.Judged.{frame_end_reasons, reading_reasons, closing_reasons, table_reasons}
+use Rattle.item_reader.specs.Judged.{entry_reasons}
+use Rattle.item_reader.specs.Judged.{IsWeighed, DescribesEntry, Holds, Takes, Answers, AnswersHolding}
+use Rattle.item_reader.specs.Judged.{node_by}
 use Rattle.item_reader.proofs.CutEntry.{cut-whole}
 use Rattle.item_reader.proofs.Holding.{kind-here}
 use Rattle.item_reader.proofs.Located.{end-here, size-here, class-here, instance-here, fits-here, fault-kind}
-use Rattle.item_reader.proofs.Parts.{first_of-front, first_of-back, record-parts, frame_end-parts, file_end-parts}
+use Rattle.item_reader.proofs.Parts.{first_of-back, record-parts, frame_end-parts}
+use Rattle.item_reader.proofs.Parts.{file_end-parts}
 use Rattle.item_reader.proofs.Parts.{table-parts, entry-parts, record-twice}
 use Rattle.item_reader.proofs.Twins.{held-twin}
 
@@ -63,7 +68,8 @@ answers-passed h new (Err e) error is said = subst (λ e. Answers h (Err e) new)
 pub takes-table : (s : State) (p : Placed) (file body : List ℕ) → s.closed ≡ false
     → StandsIn s.segment.order s.at p body file → kind_of s.dictionary p.class ≡ FrTOC
     → first_of table_reasons (here_in s file) ≡ None
-    → Takes (here_in s file) (given.Table p.at p.class p.length) (record s { at = s.at + p.length; table = true })
+    → Takes (here_in s file) (given.Table p.at p.class p.length)
+    (record s { at = s.at + p.length; table = true })
 takes-table s p file body unclosed stands kind_is none =
     let h : Here = here_in s file in
     let is : kind h ≡ FrTOC = kind-here h p stands.placed ∙ kind_is in
@@ -129,15 +135,18 @@ pub frame_end-refused : {N : Type 0} (s : State) (p : Placed) (told_weight : ℕ
     (error : ReadError) (new : State) (file body : List ℕ) → s.closed ≡ false
     → StandsIn s.segment.order s.at p body file → kind_of s.dictionary p.class ≡ FrEndOfFrame
     → IsWeighed (here_in s file) told_weight → result ≡ Err error
-    → ((fault : Fault) → result ≡ Err (errors.Fault fault) → first_of frame_end_reasons (here_in s file) ≡ Some fault)
+    → ((fault : Fault) → result ≡ Err (errors.Fault fault)
+    → first_of frame_end_reasons (here_in s file) ≡ Some fault)
     → (result ≡ Err errors.Device → ⊥) → Answers (here_in s file) (Err error) new
-frame_end-refused s p told_weight result (errors.Fault f) new file body unclosed stands is w failed told device =
+frame_end-refused s p told_weight result (errors.Fault f) new file body unclosed stands is w failed told
+    device =
     frame_end-judged s p file body unclosed stands is
     ∙ first_of-back weighing_reasons frame_end_reasons (here_in s file) w.none
     ∙ told f failed
 frame_end-refused s p told_weight result errors.Device new file body unclosed stands is w failed told device =
     absurd (device failed)
-frame_end-refused s p told_weight result errors.NoMemory new file body unclosed stands is w failed told device = tt
+frame_end-refused s p told_weight result errors.NoMemory new file body unclosed stands is w failed told device
+    = tt
 
 -- the state after the end of a frame
 abbrev pub after_frame_end : State → Placed → Collected → List ℕ → State
@@ -151,8 +160,10 @@ after_frame_end s p segment numbers = record s {
   records = s.records + 1;
 }
 
-pub takes-frame_end : (s : State) (p : Placed) (told_weight : ℕ) (segment : Collected) (numbers file body : List ℕ)
-    → s.closed ≡ false → StandsIn s.segment.order s.at p body file → kind_of s.dictionary p.class ≡ FrEndOfFrame
+pub takes-frame_end : (s : State) (p : Placed) (told_weight : ℕ) (segment : Collected)
+    (numbers file body : List ℕ)
+    → s.closed ≡ false → StandsIn s.segment.order s.at p body file
+    → kind_of s.dictionary p.class ≡ FrEndOfFrame
     → IsWeighed (here_in s file) told_weight → first_of frame_end_reasons (here_in s file) ≡ None
     → Takes (here_in s file) (given.FrameEnd p.at p.class) (after_frame_end s p segment numbers)
 takes-frame_end s p told_weight segment numbers file body unclosed stands kind_is w none =
@@ -205,7 +216,8 @@ target-after FrEndOfFrame b s w e = absurd (false≢true e)
 target-after FrTOC b s w e = absurd (false≢true e)
 target-after FrEndOfFile b s w e = absurd (false≢true e)
 
-target-tells : (k : Kind) (h : Here) (s : Structure) (at class instance node : ℕ) → is_target_kind k ≡ true → at ≡ s.at
+target-tells : (k : Kind) (h : Here) (s : Structure) (at class instance node : ℕ) → is_target_kind k ≡ true
+    → at ≡ s.at
     → class ≡ s.class → instance ≡ s.instance → node ≡ length h.before.frame
     → TellsKind k h s (given.Plain at class instance node)
 target-tells FrameH h s at class instance node e a b c d = (a, b, c, d)
@@ -294,10 +306,13 @@ pub takes-record : (s : State) (p : Placed) (told_weight number : ℕ) (header :
     → is_held s.segment.nodes (node_by s.dictionary p) ≡ false
     → first_of later_record_reasons (here_in s file) ≡ None → number ≡ length s.segment.nodes
     → Becomes segment (with_node (node_by s.dictionary p) s.segment)
-    → Takes (here_in s file) (given.Plain p.at p.class p.instance number) (after_record s p told_weight header segment)
-takes-record s p told_weight number header segment file unclosed none stands target w new later number_is becomes =
+    → Takes (here_in s file) (given.Plain p.at p.class p.instance number)
+    (after_record s p told_weight header segment)
+takes-record s p told_weight number header segment file unclosed none stands target w new later number_is
+    becomes =
     record {
-      judged = record-new_here s p told_weight file s.segment.pending unclosed none stands target w new ∙ later;
+      judged = record-new_here s p told_weight file s.segment.pending unclosed none stands target w new
+          ∙ later;
       taken = OtherItem (structure h);
       is = target-item (kind h) h is;
       tells = target-tells (kind h) h (structure h) p.at p.class p.instance number is stands.placed.place
@@ -334,7 +349,8 @@ takes-record s p told_weight number header segment file unclosed none stands tar
 
 -- ---- an entry
 
-sum-map : {A : Type 0} (f : A → Structure) (xs : List A) → sum_by size_of (map f xs) ≡ sum_by (λ x. size_of (f x)) xs
+sum-map : {A : Type 0} (f : A → Structure) (xs : List A)
+    → sum_by size_of (map f xs) ≡ sum_by (λ x. size_of (f x)) xs
 sum-map f [] = refl
 sum-map f (x ∷ xs) =
     sum_by-cons size_of (f x) (map f xs) ∙ ap (λ n. size_of (f x) + n) (sum-map f xs)
@@ -357,7 +373,8 @@ pub takes-entry : (s : State) (p : Placed) (entry : Entry) (end : ℕ) (changed 
     → Holds s entry changed new
     → Takes (here_in s file) (given.Entry p.at entry.class changed) (record new { at = end })
 takes-entry s p entry end changed new file body unclosed stands kind_is good none d holds =
-    subst (λ (n : State). Takes h (given.Entry p.at entry.class changed) (record n { at = end })) (sym holds.rest)
+    subst (λ (n : State). Takes h (given.Entry p.at entry.class changed) (record n { at = end }))
+    (sym holds.rest)
     taken
   where
     h : Here
@@ -378,7 +395,8 @@ takes-entry s p entry end changed new file body unclosed stands kind_is good non
 
     end_is : end ≡ end_of (structure h) + sum_by size_of run
     end_is = d.end_is ∙ ap (λ n. end_of (structure h) + n)
-        (sym (sum-map (λ (e : Structure × Element). e.0) (longest_run s.segment.order file (end_of (structure h)))))
+        (sym (sum-map (λ (e : Structure × Element). e.0)
+        (longest_run s.segment.order file (end_of (structure h)))))
 
     after_is : dictionary_after s.dictionary d.full ≡ new.dictionary
     after_is = ap (dictionary_after s.dictionary) whole ∙ ap (dictionary_by s.dictionary) holds.step_is

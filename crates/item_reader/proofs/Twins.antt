@@ -1,13 +1,13 @@
--- The records of a frame as a segment has them: which has the class and the instance of another, and whether one is a
--- FrameH.
-use Rattle.std.proofs.Common.{◌≡◌, ℕ, ◌+◌, Bool, true, false, cond, ◌||◌, List, [], ◌∷◌, ◌++◌, map, refl, sym, ap, ◌∙◌}
-use Rattle.std.proofs.Common.{is_some, position, Option, Some, None}
+-- The records of a frame as a segment has them: which has the class and the instance of another, and whether
+-- one is a FrameH.
+use Rattle.std.proofs.Common.{◌≡◌, ℕ, ◌+◌, Bool, true, false, cond, ◌||◌, List, [], ◌∷◌, ◌++◌, map, refl}
+use Rattle.std.proofs.Common.{ap, ◌∙◌}
+use Rattle.std.proofs.Common.{is_some, Option, Some, None}
 use Rattle.std.specs.Prelude.{find}
 use Rattle.std.specs.Option.{option_or}
 use Rattle.std.specs.List.{position_from}
 use Rattle.std.proofs.lemmas.Iterator.Adapters.{position_from-zero}
 use Rattle.std.proofs.lemmas.List.Folds.{find-append}
-use Rattle.type_text.specs.declared.types.Link.{Link}
 use Rattle.dictionary.specs.declared.entries.Entry.{Entry}
 use Rattle.link_graph.specs.declared.nodes.Node.{Node}
 use Rattle.link_graph.specs.Collected.{Bodied, is_named, link_to, is_held}
@@ -19,7 +19,8 @@ use Rattle.item_reader.specs.State.{structure_of}
 use Rattle.item_reader.proofs.Parts.{target-twin}
 
 -- what has a place among records is found among the structures that they are
-placed-found : (p : Bodied → Bool) (q : Structure → Bool) → ((r : Bodied) → p r ≡ q (structure_of r)) → (i : ℕ)
+placed-found : (p : Bodied → Bool) (q : Structure → Bool) → ((r : Bodied) → p r ≡ q (structure_of r))
+    → (i : ℕ)
     → (nodes : List Bodied) → is_some (position_from p i nodes) ≡ is_some (find q (map structure_of nodes))
 placed-found p q same i [] = refl
 placed-found p q same i (r ∷ rs) =
@@ -37,7 +38,8 @@ pub held-twin : (nodes : List Bodied) (node : Node) (s : Structure) → s.class 
     → s.instance ≡ node.instance → is_held nodes node ≡ has_twin (map structure_of nodes) s
 held-twin nodes node s class instance =
     ap is_some (position_from-zero (λ (r : Bodied). is_named (link_to node) r.node) nodes)
-    ∙ placed-found (λ (r : Bodied). is_named (link_to node) r.node) (is_target (link_to node)) (λ r. refl) 0 nodes
+    ∙ placed-found (λ (r : Bodied). is_named (link_to node) r.node) (is_target (link_to node)) (λ r. refl) 0
+    nodes
     ∙ target-twin (map structure_of nodes) s node.class node.instance class instance
 
 -- one more record is the FrameH, or one was there

@@ -12,7 +12,8 @@ ghost use Rattle.file_grammar.specs.Steps.{refusal_reason};
 ghost use Rattle.item_reader.specs.Placed.{IsStructureAt, StandsIn};
 ghost use Rattle.item_reader.specs.State.{IsSound, here_in};
 ghost use Rattle.item_reader.specs.Judged.{InEachFile, Answers, AnswersHolding, Holds, IsKept, EndsFrame};
-ghost use Rattle.item_reader.specs.Judged.{DescribesEntry, body_reasons, table_reasons, IsOpenStill, ClosesBy, node_by};
+ghost use Rattle.item_reader.specs.Judged.{DescribesEntry, body_reasons, table_reasons, IsOpenStill};
+ghost use Rattle.item_reader.specs.Judged.{ClosesBy, node_by};
 
 use crate::item::{Item, ReadError};
 use crate::roles::root_of;

@@ -2,14 +2,16 @@ use Rattle.std.proofs.Common.{◌≡◌, ◌≤◌, None, Ok, true, false, is_so
 use Rattle.dictionary.specs.Dictionary.{entry_of, step, IsHeld}
 use Rattle.layout_plan.proofs.LayoutLemmas.{copied-None, copied-is_some}
 use Rattle.item_reader.specs.declared.item.ReadError.TheVariants as errors
-use Rattle.item_reader.proofs.Holding.{step-added, class-stepped, unchanged-none, unchanged-known, holds-unchanged}
+use Rattle.item_reader.proofs.Holding.{step-added, class-stepped, unchanged-none, unchanged-known}
+use Rattle.item_reader.proofs.Holding.{holds-unchanged}
 use Rattle.item_reader.proofs.Holding.{holds-grown, answers-refused, answers-beyond, answers-taken}
 use Rattle.item_reader.proofs.state.State.hold.Goals as goal
 
 pub returns-in-Err-clause-answers : goal.returns-in-Err-clause-answers
 returns-in-Err-clause-answers c =
     answers-refused c.args.self.now c.args.head c.args.entry c.add.result c.in-Err.fault c.refusal.result
-    c.held.ensures.sound c.requires.kind c.in-Err.is c.add.ensures.refused c.add.ensures.only_memory c.refusal.ensures
+    c.held.ensures.sound c.requires.kind c.in-Err.is c.add.ensures.refused c.add.ensures.only_memory
+    c.refusal.ensures
 
 pub returns-then-is_beyond-clause-answers : goal.returns-then-is_beyond-clause-answers
 returns-then-is_beyond-clause-answers c =
@@ -54,8 +56,10 @@ returns-in_ok-learn-in-Some-clause-holds c =
     let known : is_some c.held.result ≡ false = sym c.is_some-known.ensures ∙ c.if-not-known.true in
     let fresh : entry_of s.dictionary e.class ≡ None = sym (c.held.ensures.found high)
     ∙ copied-None c.held.result known in
-    holds-grown s e c.in-Some.entry.now c.add.new.self c.learn.new.self c.requires.sound.plans c.held.ensures.sound
-    stepped fresh (sym (c.in-Some.ensures.found high)) c.in_ok-learn-in-Some.ensures.read c.learn.ensures.unread
+    holds-grown s e c.in-Some.entry.now c.add.new.self c.learn.new.self c.requires.sound.plans
+    c.held.ensures.sound
+    stepped fresh (sym (c.in-Some.ensures.found high)) c.in_ok-learn-in-Some.ensures.read
+    c.learn.ensures.unread
 
 pub returns-in_default-held-clause-answers : goal.returns-in_default-held-clause-answers
 returns-in_default-held-clause-answers c =

@@ -8,13 +8,16 @@ returns-in_err-changed-clause-answers c = λ file body stands good d.
     let h = here_in c.args.self.now file in
     let error = c.in_err-changed.field-0.0 in
     answers-passed h c.hold.new.self c.from_residual.result error c.from_residual.ensures.1
-    (entry-answers c.args.self.now c.args.head error c.hold.new.self file body c.requires.open stands c.requires.kind
+    (entry-answers c.args.self.now c.args.head error c.hold.new.self file body c.requires.open stands
+    c.requires.kind
     good (c.in_err-changed.ensures.answers file body c.args.end stands d))
 
 pub returns-clause-answers : goal.returns-clause-answers
 returns-clause-answers c = λ file body stands good d.
-    takes-entry c.args.self.now c.args.head c.args.entry c.args.end c.in_ok-changed.changed c.hold.new.self file body
-    c.requires.open stands c.requires.kind good (c.in_ok-changed.ensures.answers file body c.args.end stands d) d
+    takes-entry c.args.self.now c.args.head c.args.entry c.args.end c.in_ok-changed.changed c.hold.new.self
+    file body
+    c.requires.open stands c.requires.kind good
+    (c.in_ok-changed.ensures.answers file body c.args.end stands d) d
     c.in_ok-changed.ensures.holds
 
 pub returns-clause-kept : goal.returns-clause-kept

@@ -18,17 +18,20 @@ returns-in_err-read-clause-answers c = λ file stands.
 
 pub table_seek-seek-requires-clause-layout : goal.table_seek-seek-requires-clause-layout
 table_seek-seek-requires-clause-layout c =
-    file_end-closes c.args.self.now c.args.end c.args.body.now c.requires.here c.requires.size (assumption c.well_formed.1) c.requires.kind
+    file_end-closes c.args.self.now c.args.end c.args.body.now c.requires.here c.requires.size
+    (assumption c.well_formed.1) c.requires.kind
     (λ file stands. c.closing_fault.ensures file stands ∙ c.in_default.is)
 
 pub returns-clause-answers : goal.returns-clause-answers
 returns-clause-answers c = λ file stands.
-    takes-file_end c.args.self.now c.args.end c.table_seek-seek.result file c.args.body.now c.requires.open stands
+    takes-file_end c.args.self.now c.args.end c.table_seek-seek.result file c.args.body.now c.requires.open
+    stands
     c.requires.kind (c.in_ok-read.ensures.ok file stands).none
     (c.closing_fault.ensures file stands ∙ c.in_default.is) (c.table_seek-seek.ensures file stands)
 
 pub returns-clause-kept : goal.returns-clause-kept
 returns-clause-kept c =
     sound-file_end c.args.self.now c.args.end c.requires.sound c.requires.here
-    (file_end-below c.args.self.now c.args.end c.args.body.now c.requires.here c.requires.size (assumption c.well_formed.1)
+    (file_end-below c.args.self.now c.args.end c.args.body.now c.requires.here c.requires.size
+    (assumption c.well_formed.1)
     (λ file stands. c.closing_fault.ensures file stands ∙ c.in_default.is))

@@ -24,7 +24,8 @@ returns-in_err-numbering-clause-answers c = λ file stands.
     let error = c.in_err-numbering.field-0.0 in
     answers-passed (here_in s file) s c.from_residual-in_err-numbering.result error
     c.from_residual-in_err-numbering.ensures.1
-    (frame_end-refused s c.args.placed c.in_ok-weigh.field-0 c.close_frame.result error s file s.segment.pending
+    (frame_end-refused s c.args.placed c.in_ok-weigh.field-0 c.close_frame.result error s file
+    s.segment.pending
     c.requires.open stands c.requires.kind (c.in_ok-weigh.ensures.ok file stands) c.in_err-numbering.was
     (λ fault failed. c.close_frame.ensures.fault s.segment.pending fault failed file stands)
     c.close_frame.ensures.no_device)

@@ -3,7 +3,8 @@ use Rattle.std.proofs.Common.{◌≡◌, ◌+◌, ◌≤◌, Bool, ◌||◌, tru
 use Rattle.std.proofs.lemmas.Bool.{false≢true}
 use Rattle.file_grammar.specs.contracts.kind.Kind.{the_type}
 use Rattle.file_grammar.specs.declared.kind.Kind.{Kind}
-use Rattle.file_grammar.specs.declared.kind.Kind.TheVariants.{FrSH, FrSE, FrameH, FrEndOfFrame, FrTOC, FrEndOfFile}
+use Rattle.file_grammar.specs.declared.kind.Kind.TheVariants.{FrSH, FrSE, FrameH, FrEndOfFrame, FrTOC}
+use Rattle.file_grammar.specs.declared.kind.Kind.TheVariants.{FrEndOfFile}
 use Rattle.file_grammar.specs.declared.kind.Kind.TheVariants.{Other}
 use Rattle.file_grammar.specs.Structure.{file_limit}
 use Rattle.file_grammar.specs.Kind.{kind_of, is_target_kind, is_header_kind}
@@ -13,7 +14,8 @@ use Rattle.item_reader.specs.State.{here_in}
 use Rattle.item_reader.specs.Judged.{weighing_reasons, record_reasons, node_by}
 use Rattle.item_reader.proofs.Kept.{record-below, sound-record}
 use Rattle.item_reader.proofs.Parts.{first_of-front}
-use Rattle.item_reader.proofs.Taken.{answers-fault, answers-passed, record-judged, record-held, record-new_here}
+use Rattle.item_reader.proofs.Taken.{answers-fault, answers-passed, record-judged, record-held}
+use Rattle.item_reader.proofs.Taken.{record-new_here}
 use Rattle.item_reader.proofs.Taken.{takes-record, added-new, refused-held}
 use Rattle.item_reader.proofs.state.State.take_record.Goals as goal
 
@@ -40,7 +42,8 @@ returns-in-Err-InstanceTwice-clause-answers c = λ file stands.
     c.in-Err-InstanceTwice.is c.in-Err-InstanceTwice.field-0-is c.add.ensures.twice.0 in
     answers-fault (here_in s file) c.fault.result c.into.result (record s { segment = c.add.new.self })
     c.into.ensures
-    (record-held s p c.in_ok-weight.weight file s.segment.pending c.requires.open c.requires.frame stands target
+    (record-held s p c.in_ok-weight.weight file s.segment.pending c.requires.open c.requires.frame stands
+    target
     (c.in_ok-weight.ensures.ok file stands) twice ∙ ap Some (sym c.fault.ensures))
 
 pub returns-in-Some-clause-answers : goal.returns-in-Some-clause-answers
@@ -53,9 +56,11 @@ returns-in-Some-clause-answers c = λ file stands.
     ap (is_held s.segment.nodes) (sym c.node.ensures)
     ∙ added-new c.add.result c.in-Ok.number (is_held s.segment.nodes c.node.result) c.in-Ok.is
     c.add.ensures.twice.1 in
-    answers-fault (here_in s file) c.in-Some.fault c.into-in-Some.result (record s { segment = c.add.new.self })
+    answers-fault (here_in s file) c.in-Some.fault c.into-in-Some.result
+    (record s { segment = c.add.new.self })
     c.into-in-Some.ensures
-    (record-new_here s p c.in_ok-weight.weight file s.segment.pending c.requires.open c.requires.frame stands target
+    (record-new_here s p c.in_ok-weight.weight file s.segment.pending c.requires.open c.requires.frame stands
+    target
     (c.in_ok-weight.ensures.ok file stands) new
     ∙ c.record_fault-later.ensures s.segment.pending file stands ∙ c.in-Some.is)
 
