@@ -1,5 +1,6 @@
 -- The entry that begins with an FrSH of a body.
-use Rattle.std.proofs.Common.{◌≡◌, ℕ, zero, suc, ◌+◌, ◌*◌, get_or, ◌<◌, List, [], ◌∷◌, ◌++◌, map, length, Option, Some}
+use Rattle.std.proofs.Common.{◌≡◌, ℕ, zero, suc, ◌+◌, ◌*◌, get_or, ◌<◌, List, [], ◌∷◌, ◌++◌, map, length}
+use Rattle.std.proofs.Common.{Option, Some}
 use Rattle.std.proofs.Common.{sym, ap, ◌∙◌, subst, arith}
 use Rattle.std.specs.Prelude.{slice_get, option_and_then}
 use Rattle.scalar_types.specs.declared.Order.{Order}
@@ -56,9 +57,10 @@ pub class-fits : (order : Order) (body : List ℕ) (class : ℕ) → HasBody ord
 class-fits order body class has all has_class =
     let spelled = has.2 in
     let values = structure-values order (map number_of has.0) has.0 spelled.front spelled.spelled in
-    let same : values.1 ≡ class = cc (ap (λ values. slice_get values 1) values.3, has_class has.0 has.1 spelled) in
-    let fields = subst (λ values. AreFields order (map number_of has.0) structure_fields values spelled.front) values.3
-    spelled.spelled in
+    let same : values.1 ≡ class =
+    cc (ap (λ values. slice_get values 1) values.3, has_class has.0 has.1 spelled) in
+    let fields = subst (λ values. AreFields order (map number_of has.0) structure_fields values spelled.front)
+    values.3 spelled.spelled in
     let front = bytes-front spelled.front has.1 (subst AreBytes spelled.split all) in
     let behind = bytes-rest fields.0 fields.1 (subst AreBytes fields.2 front) in
     subst (λ n. n < 65536) same
@@ -68,20 +70,26 @@ class-fits order body class has all has_class =
 -- ---- the entry
 
 -- by the values that the body of its FrSH has
-pub entry-begun : (order : Order) (body name : List ℕ) (class : ℕ) (comment : List ℕ) (elements : List Element)
-    → HasBody order structure_fields body
+pub entry-begun : (order : Order) (body name : List ℕ) (class : ℕ) (comment : List ℕ)
+    (elements : List Element) → HasBody order structure_fields body
     → HasTextAt order structure_fields body 0 name → HasNumberAt order structure_fields body 1 class
     → HasTextAt order structure_fields body 2 comment
     → Begins order body (record { class = class; name = name; comment = comment; elements = elements })
 entry-begun order body name class comment elements has has_name has_class has_comment =
     λ file at p placed body_is.
     let run : List Element = elements_from order file (end_of (structure_at order file at)) in
-    ap (λ bytes. option_and_then (λ (r : Reading). entry_with run r.values) (reading_by order bytes structure_fields))
+    ap (λ bytes. option_and_then (λ (r : Reading). entry_with run r.values)
+    (reading_by order bytes structure_fields))
     (ap (λ (s : Structure). s.body) placed.is ∙ sym body_is)
     ∙ ap (option_and_then (λ (r : Reading). entry_with run r.values))
     (reading-again order body structure_fields has.0 has.1 structure_fields-sound has.2)
     ∙ ap (entry_with run) values.3
-    ∙ (λ i. Some (record { class = same_class i; name = same_name i; comment = same_comment i; elements = run }))
+    ∙ (λ i. Some (record {
+      class = same_class i;
+      name = same_name i;
+      comment = same_comment i;
+      elements = run;
+    }))
   where
     values : (n : List ℕ) × (k : ℕ) × (c : List ℕ) × (has.0 ≡ value.Text n ∷ value.Num k ∷ value.Text c ∷ [])
     values = structure-values order (map number_of has.0) has.0 has.2.front has.2.spelled
