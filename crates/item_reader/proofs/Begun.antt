@@ -1,16 +1,14 @@
 -- The entry that begins with an FrSH of a body.
-use Rattle.std.proofs.Common.{◌≡◌, ℕ, zero, suc, ◌+◌, ◌*◌, get_or, ◌<◌, List, [], ◌∷◌, ◌++◌, map, length}
-use Rattle.std.proofs.Common.{Option, Some}
+use Rattle.std.proofs.Common.{◌≡◌, ℕ, zero, suc, ◌+◌, ◌*◌, get_or, ◌<◌, List, [], ◌∷◌, ◌++◌, map}
+use Rattle.std.proofs.Common.{Some}
 use Rattle.std.proofs.Common.{sym, ap, ◌∙◌, subst, arith}
 use Rattle.std.specs.Prelude.{slice_get, option_and_then}
 use Rattle.scalar_types.specs.declared.Order.{Order}
 use Rattle.scalar_types.specs.declared.Order.TheVariants.{Big, Little}
 use Rattle.scalar_types.specs.declared.Width.TheVariants.{Two}
-use Rattle.record_values.specs.declared.values.Value.{Value}
 use Rattle.record_values.specs.declared.values.Value.TheVariants as value
 use Rattle.record_values.specs.Spelling.{IsNumber}
 use Rattle.dictionary.specs.declared.entries.Element.{Element}
-use Rattle.dictionary.specs.declared.entries.Entry.{Entry}
 use Rattle.layout_plan.specs.Body.{number_of, AreFields, HasBody}
 use Rattle.layout_plan.specs.Lent.{HasTextAt, HasNumberAt}
 use Rattle.layout_plan.specs.BuiltIn.{structure_fields}
@@ -18,8 +16,6 @@ use Rattle.file_grammar.specs.Structure.{Structure, end_of, structure_at}
 use Rattle.file_grammar.specs.Record.{Reading, reading_by}
 use Rattle.file_grammar.specs.Described.{entry_with}
 use Rattle.file_grammar.proofs.Bodies.{structure_fields-sound, structure-values, reading-again}
-use Rattle.item_reader.specs.declared.structure.Placed.{Placed}
-use Rattle.item_reader.specs.Placed.{IsPlaced, body_of}
 use Rattle.item_reader.specs.Entries.{Begins, elements_from}
 
 -- ---- the class

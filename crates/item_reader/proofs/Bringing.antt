@@ -35,8 +35,8 @@ pub record IsHeaded (order : Order) (file : List ℕ) (at : ℕ) (common : Commo
   pub moved : to ≡ at + 14
   pub may : IsCandidate at common
 
-pub headed : (order : Order) (file : List ℕ) (at place : ℕ) (h : Head) (common : Common) (to : ℕ) (test : Bool)
-    → IsHead order file at h → PassesHead h at to → h ≡ Whole common
+pub headed : (order : Order) (file : List ℕ) (at place : ℕ) (h : Head) (common : Common) (to : ℕ)
+    (test : Bool) → IsHead order file at h → PassesHead h at to → h ≡ Whole common
     → place ≡ at → test ≡ may_be_element place common → test ≡ true → IsHeaded order file at common to
 headed order file at place h common to test head passes is here test_is may = record {
   head = subst (IsHead order file at) is head;
@@ -65,8 +65,8 @@ pub placed-read : (order : Order) (at : ℕ) (common : Common) (reading next : R
     → Appends told before after old new → old ≡ [] → body ≡ new
     → IsPlaced order reading.opened at (placed_at at common)
     × (body ≡ body_of reading.opened (placed_at at common))
-placed-read order at common reading next told before after old new body whole it seen same passes is appends none
-    body_is =
+placed-read order at common reading next told before after old new body whole it seen same passes is appends
+    none body_is =
     let n : ℕ = common.length - 14 in
     let there : n ≤ left_at next.opened before.at = (passes.there next seen).0 is in
     let passed : after.at ≡ before.at + n = passes.all.0 is in

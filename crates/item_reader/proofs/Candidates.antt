@@ -71,7 +71,8 @@ none-other order file at common head refused =
 
 -- none stands whose body is not all there
 pub none-short : (order : Order) (file : List ℕ) (at : ℕ) (common : Common)
-    → IsHead order file at (Whole common) → left_at file (at + 14) < common.length - 14 → element_at order file at ≡ None
+    → IsHead order file at (Whole common) → left_at file (at + 14) < common.length - 14
+    → element_at order file at ≡ None
 none-short order file at common head short =
     none-of (element_at order file at) (λ e is.
     let here = element-found order file at e is in

@@ -81,7 +81,7 @@ pub fn read_run<S: Shelf>(
     ensures on { GoesOn (S.outside shelf.old) (S.outside shelf.new) source.old source.new }
     ensures bounded { Told (reading_at (S.outside shelf.old).slots source.old.slot)
         (λ reading. drawn source.new
-            ≤ look order reading.opened (end_from order reading.opened source.old.at)) }
+        ≤ look order reading.opened (end_from order reading.opened source.old.at)) }
 {
     let mut elements = ElementList::new(alloc);
     loop {

@@ -11,7 +11,8 @@ loop-elements-init g c = running-begin c.args.order _ _ _ c.requires.stands c.ne
 pub loop-elements-preserved-then-len-lt-KEPT_ELEMENTS : goal.loop-elements-preserved-then-len-lt-KEPT_ELEMENTS
 loop-elements-preserved-then-len-lt-KEPT_ELEMENTS g c =
     running-kept c.args.order _ _ _ _ _ _ _ _ c.in-Element.element c.in_ok-element.field-0
-    c.loop-elements.invariant c.in-Element.is c.in_ok-element.ensures.found c.in_ok-element.ensures.moves c.in_ok-element.ensures.read
+    c.loop-elements.invariant c.in-Element.is c.in_ok-element.ensures.found c.in_ok-element.ensures.moves
+    c.in_ok-element.ensures.read
     c.next_element.ensures.stands c.next_element.ensures.on
     (omega (arith, c.len.ensures, c.if-len-lt-KEPT_ELEMENTS.true)) c.in_ok-push-in-Element.ensures.ok
 
