@@ -1,15 +1,14 @@
 -- The entry that begins with an FrSH of a body.
-use Rattle.std.proofs.Common.{◌≡◌, ℕ, zero, suc, ◌+◌, ◌*◌, get_or, ◌<◌, List, [], ◌∷◌, ◌++◌, map, length, Option, Some}
+use Rattle.std.proofs.Common.{◌≡◌, ℕ, zero, suc, ◌+◌, ◌*◌, get_or, ◌<◌, List, [], ◌∷◌, ◌++◌, map}
+use Rattle.std.proofs.Common.{Some}
 use Rattle.std.proofs.Common.{sym, ap, ◌∙◌, subst, arith}
 use Rattle.std.specs.Prelude.{slice_get, option_and_then}
 use Rattle.scalar_types.specs.declared.Order.{Order}
 use Rattle.scalar_types.specs.declared.Order.TheVariants.{Big, Little}
 use Rattle.scalar_types.specs.declared.Width.TheVariants.{Two}
-use Rattle.record_values.specs.declared.values.Value.{Value}
 use Rattle.record_values.specs.declared.values.Value.TheVariants as value
 use Rattle.record_values.specs.Spelling.{IsNumber}
 use Rattle.dictionary.specs.declared.entries.Element.{Element}
-use Rattle.dictionary.specs.declared.entries.Entry.{Entry}
 use Rattle.layout_plan.specs.Body.{number_of, AreFields, HasBody}
 use Rattle.layout_plan.specs.Lent.{HasTextAt, HasNumberAt}
 use Rattle.layout_plan.specs.BuiltIn.{structure_fields}
@@ -17,8 +16,6 @@ use Rattle.file_grammar.specs.Structure.{Structure, end_of, structure_at}
 use Rattle.file_grammar.specs.Record.{Reading, reading_by}
 use Rattle.file_grammar.specs.Described.{entry_with}
 use Rattle.file_grammar.proofs.Bodies.{structure_fields-sound, structure-values, reading-again}
-use Rattle.item_reader.specs.declared.structure.Placed.{Placed}
-use Rattle.item_reader.specs.Placed.{IsPlaced, body_of}
 use Rattle.item_reader.specs.Entries.{Begins, elements_from}
 
 -- ---- the class
@@ -56,9 +53,10 @@ pub class-fits : (order : Order) (body : List ℕ) (class : ℕ) → HasBody ord
 class-fits order body class has all has_class =
     let spelled = has.2 in
     let values = structure-values order (map number_of has.0) has.0 spelled.front spelled.spelled in
-    let same : values.1 ≡ class = cc (ap (λ values. slice_get values 1) values.3, has_class has.0 has.1 spelled) in
-    let fields = subst (λ values. AreFields order (map number_of has.0) structure_fields values spelled.front) values.3
-    spelled.spelled in
+    let same : values.1 ≡ class =
+    cc (ap (λ values. slice_get values 1) values.3, has_class has.0 has.1 spelled) in
+    let fields = subst (λ values. AreFields order (map number_of has.0) structure_fields values spelled.front)
+    values.3 spelled.spelled in
     let front = bytes-front spelled.front has.1 (subst AreBytes spelled.split all) in
     let behind = bytes-rest fields.0 fields.1 (subst AreBytes fields.2 front) in
     subst (λ n. n < 65536) same
@@ -68,20 +66,26 @@ class-fits order body class has all has_class =
 -- ---- the entry
 
 -- by the values that the body of its FrSH has
-pub entry-begun : (order : Order) (body name : List ℕ) (class : ℕ) (comment : List ℕ) (elements : List Element)
-    → HasBody order structure_fields body
+pub entry-begun : (order : Order) (body name : List ℕ) (class : ℕ) (comment : List ℕ)
+    (elements : List Element) → HasBody order structure_fields body
     → HasTextAt order structure_fields body 0 name → HasNumberAt order structure_fields body 1 class
     → HasTextAt order structure_fields body 2 comment
     → Begins order body (record { class = class; name = name; comment = comment; elements = elements })
 entry-begun order body name class comment elements has has_name has_class has_comment =
     λ file at p placed body_is.
     let run : List Element = elements_from order file (end_of (structure_at order file at)) in
-    ap (λ bytes. option_and_then (λ (r : Reading). entry_with run r.values) (reading_by order bytes structure_fields))
+    ap (λ bytes. option_and_then (λ (r : Reading). entry_with run r.values)
+    (reading_by order bytes structure_fields))
     (ap (λ (s : Structure). s.body) placed.is ∙ sym body_is)
     ∙ ap (option_and_then (λ (r : Reading). entry_with run r.values))
     (reading-again order body structure_fields has.0 has.1 structure_fields-sound has.2)
     ∙ ap (entry_with run) values.3
-    ∙ (λ i. Some (record { class = same_class i; name = same_name i; comment = same_comment i; elements = run }))
+    ∙ (λ i. Some (record {
+      class = same_class i;
+      name = same_name i;
+      comment = same_comment i;
+      elements = run;
+    }))
   where
     values : (n : List ℕ) × (k : ℕ) × (c : List ℕ) × (has.0 ≡ value.Text n ∷ value.Num k ∷ value.Text c ∷ [])
     values = structure-values order (map number_of has.0) has.0 has.2.front has.2.spelled

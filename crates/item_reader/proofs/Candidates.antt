@@ -1,9 +1,11 @@
 -- An FrSE behind an FrSH: the element that it is, that none stands there, and the fault where one is wrong.
-use Rattle.std.proofs.Common.{◌≡◌, ℕ, ◌+◌, ◌-◌, ◌<◌, ◌≤◌, ◌&&◌, Bool, true, false, List, [], ◌∷◌, map, length, take, drop}
+use Rattle.std.proofs.Common.{◌≡◌, ℕ, ◌+◌, ◌-◌, ◌<◌, ◌≤◌, ◌&&◌, Bool, true, false, List, [], ◌∷◌, map, length}
+use Rattle.std.proofs.Common.{take, drop}
 use Rattle.std.proofs.Common.{Option, Some, None, refl, sym, ap, ◌∙◌, subst, arith}
 use Rattle.std.specs.Prelude.{nat_le, ◌==◌, slice_range, slice_get}
 use Rattle.std.proofs.lemmas.List.{drop-drop}
-use Rattle.std.proofs.lemmas.Bool.{leb-true, le-leb, eq-eqb, eqb-true, and_from, and_parts, cond-true, cond-false}
+use Rattle.std.proofs.lemmas.Bool.{leb-true, le-leb, eq-eqb, eqb-true, and_from, and_parts, cond-true}
+use Rattle.std.proofs.lemmas.Bool.{cond-false}
 use Rattle.std.proofs.lemmas.Bool.{lt-ltb, le-ltb}
 use Rattle.scalar_types.specs.declared.Order.{Order}
 use Rattle.type_text.specs.TypeText.{type_of}
@@ -19,7 +21,8 @@ use Rattle.layout_plan.specs.Reading.{fault_of}
 use Rattle.layout_plan.specs.BuiltIn.{element_fields}
 use Rattle.file_grammar.specs.declared.reason.Reason.TheVariants.{CutRecord, StrayElement}
 use Rattle.file_grammar.specs.declared.kind.Kind.TheVariants.{FrSE}
-use Rattle.file_grammar.specs.Structure.{Structure, record_limit, file_limit, common_at, left_at, structure_at, end_of}
+use Rattle.file_grammar.specs.Structure.{Structure, record_limit, file_limit, common_at, left_at}
+use Rattle.file_grammar.specs.Structure.{structure_at, end_of}
 use Rattle.file_grammar.specs.Kind.{kind_of}
 use Rattle.file_grammar.specs.Described.{element_at}
 use Rattle.file_grammar.specs.Item.{Before, nothing_yet}
@@ -44,14 +47,15 @@ none-of None h = refl
 none-of (Some e) h = absurd (h e refl)
 
 -- none stands where fewer than 14 bytes are left
-pub none-cut : (order : Order) (file : List ℕ) (at : ℕ) → left_at file at < 14 → element_at order file at ≡ None
+pub none-cut : (order : Order) (file : List ℕ) (at : ℕ) → left_at file at < 14
+    → element_at order file at ≡ None
 none-cut order file at short =
     none-of (element_at order file at) (λ e is.
     let here = element-found order file at e is in omega (arith, here.stands.head, short))
 
 -- none stands whose head is no FrSE's within the limits
-pub none-other : (order : Order) (file : List ℕ) (at : ℕ) (common : Common) → IsHead order file at (Whole common)
-    → may_be_element at common ≡ false → element_at order file at ≡ None
+pub none-other : (order : Order) (file : List ℕ) (at : ℕ) (common : Common)
+    → IsHead order file at (Whole common) → may_be_element at common ≡ false → element_at order file at ≡ None
 none-other order file at common head refused =
     none-of (element_at order file at) (λ e is.
     let here = element-found order file at e is in
@@ -60,13 +64,15 @@ none-other order file at common head refused =
     let may : may_be_element at common ≡ true =
     and_from _ _ (eq-eqb common.class 2 class)
     (and_from _ _ (le-leb 14 common.length (omega (arith, told, here.stands.whole)))
-    (and_from _ _ (le-leb common.length record_limit (omega (arith, told, here.stands.whole, here.stands.small)))
+    (and_from _ _ (le-leb common.length record_limit
+    (omega (arith, told, here.stands.whole, here.stands.small)))
     (le-leb (at + common.length) file_limit (omega (arith, told, here.stands.whole, here.stands.within))))) in
     cc)
 
 -- none stands whose body is not all there
-pub none-short : (order : Order) (file : List ℕ) (at : ℕ) (common : Common) → IsHead order file at (Whole common)
-    → left_at file (at + 14) < common.length - 14 → element_at order file at ≡ None
+pub none-short : (order : Order) (file : List ℕ) (at : ℕ) (common : Common)
+    → IsHead order file at (Whole common) → left_at file (at + 14) < common.length - 14
+    → element_at order file at ≡ None
 none-short order file at common head short =
     none-of (element_at order file at) (λ e is.
     let here = element-found order file at e is in
@@ -112,8 +118,8 @@ candidate at common may =
     }
 
 -- the code's test of it
-pub candidate-tested : (at place : ℕ) (common : Common) (test : Bool) → place ≡ at → test ≡ may_be_element place common
-    → test ≡ true → IsCandidate at common
+pub candidate-tested : (at place : ℕ) (common : Common) (test : Bool) → place ≡ at
+    → test ≡ may_be_element place common → test ≡ true → IsCandidate at common
 candidate-tested at place common test here is may =
     candidate at common (ap (λ at. may_be_element at common) (sym here) ∙ sym is ∙ may)
 
@@ -155,7 +161,8 @@ placed-fits order file at p placed =
 pub placed-end : (order : Order) (file : List ℕ) (at : ℕ) (p : Placed) → IsPlaced order file at p
     → end_of (structure_at order file at) ≡ at + p.length
 placed-end order file at p placed =
-    ap (λ n. at + n) (size-structure_at order file at (placed-fits order file at p placed) ∙ sym placed.length_is)
+    ap (λ n. at + n)
+    (size-structure_at order file at (placed-fits order file at p placed) ∙ sym placed.length_is)
 
 -- the element of an FrSE whose body has these texts
 pub element-spelled : (order : Order) (file : List ℕ) (at : ℕ) (p : Placed) (body name text comment : List ℕ)
@@ -165,11 +172,13 @@ pub element-spelled : (order : Order) (file : List ℕ) (at : ℕ) (p : Placed) 
     → HasTextAt order element_fields body 2 comment
     → element_at order file at
     ≡ Some (record { name = name; ty = type_of text; text = text; comment = comment })
-element-spelled order file at p body name text comment placed within class body_is has has_name has_text has_comment =
+element-spelled order file at p body name text comment placed within class body_is has has_name has_text
+    has_comment =
     element-again order file (structure_at order file at)
     (record { name = name; ty = type_of text; text = text; comment = comment })
     (record {
-      stands = stands-whole order file at (placed-fits order file at p placed) (omega (arith, placed.length_is, within));
+      stands = stands-whole order file at (placed-fits order file at p placed)
+          (omega (arith, placed.length_is, within));
       class = ap (λ (s : Structure). s.class) placed.is ∙ class;
       tail = has.1;
       body = subst (λ bytes. IsBody order element_fields
@@ -194,13 +203,15 @@ element-spelled order file at p body name text comment placed within class body_
 
     values_are : has.0 ≡ value.Text name ∷ value.Text text ∷ value.Text comment ∷ []
     values_are =
-        values.3 ∙ (λ i. value.Text (same_name i) ∷ value.Text (same_text i) ∷ value.Text (same_comment i) ∷ [])
+        values.3
+        ∙ (λ i. value.Text (same_name i) ∷ value.Text (same_text i) ∷ value.Text (same_comment i) ∷ [])
 
 -- ---- faults
 
 -- the file's end cuts what stands there
 fault-cut : (order : Order) (file : List ℕ) (at : ℕ) → at < length file
-    → length_reason order file at ≡ Some CutRecord → (before : Before) → before.place ≡ at → before.closed ≡ false
+    → length_reason order file at ≡ Some CutRecord
+    → (before : Before) → before.place ≡ at → before.closed ≡ false
     → fault_here (record { order = order; file = file; before = before }) ≡ Some (fault_at CutRecord (at, 0))
 fault-cut order file at within cut before here unclosed =
     let h : Here = record { order = order; file = file; before = before } in
@@ -217,7 +228,8 @@ fault-cut_head order file at some short =
     fault-cut order file at (omega (arith, some)) (cond-true _ _ _ (lt-ltb (left_at file at) 14 short))
 
 -- or within its body
-pub fault-cut_body : (order : Order) (file : List ℕ) (at : ℕ) (common : Common) → IsHead order file at (Whole common)
+pub fault-cut_body : (order : Order) (file : List ℕ) (at : ℕ) (common : Common)
+    → IsHead order file at (Whole common)
     → 14 ≤ common.length → common.length ≤ record_limit → left_at file (at + 14) < common.length - 14
     → (before : Before) → before.place ≡ at → before.closed ≡ false
     → fault_here (record { order = order; file = file; before = before }) ≡ Some (fault_at CutRecord (at, 0))
@@ -233,7 +245,8 @@ fault-cut_body order file at common head low high short =
 
 -- the body of an FrSE does not read
 pub fault-unread : (order : Order) (file : List ℕ) (at : ℕ) (p : Placed) (body : List ℕ) (f : BodyFault)
-    → IsPlaced order file at p → p.class ≡ 2 → body ≡ body_of file p → fault_of order element_fields body ≡ Some f
+    → IsPlaced order file at p → p.class ≡ 2 → body ≡ body_of file p
+    → fault_of order element_fields body ≡ Some f
     → (before : Before) → before.place ≡ at → before.closed ≡ false
     → fault_here (record { order = order; file = file; before = before })
     ≡ Some (fault_at (reason_of f.reason) (at, f.field))

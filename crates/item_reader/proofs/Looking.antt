@@ -11,7 +11,8 @@ pub look-least : (order : Order) (file : List ℕ) (place : ℕ) → place + 655
 look-least order file place = by (left_at file place) (common_at order file place).length
   where
     by : (left told : ℕ) → place + 65550
-        ≤ cond (nat_le 8 left && (nat_le 14 told && nat_le told record_limit)) (place + told + 65536) (place + 65550)
+        ≤ cond (nat_le 8 left && (nat_le 14 told && nat_le told record_limit)) (place + told + 65536)
+        (place + 65550)
     by left told = test (nat_le 8 left && (nat_le 14 told && nat_le told record_limit)) refl
       where
         test : (b : Bool) → (nat_le 8 left && (nat_le 14 told && nat_le told record_limit)) ≡ b

@@ -24,7 +24,8 @@ pub record IsRunning (order : Order) (first now : Outside) (start cur : Position
   pub goes : GoesOn first now start cur
   pub low : cur.at ≤ max start.at file_limit
   pub read : AreRead elements
-  pub runs : Told (reading_at first.slots start.slot) (λ reading. Runs order reading.opened start.at elements cur.at)
+  pub runs : Told (reading_at first.slots start.slot)
+      (λ reading. Runs order reading.opened start.at elements cur.at)
 
 pub running-begin : (order : Order) (outside : Outside) (start : Position) (elements : List Element)
     → Stands outside start → elements ≡ [] → IsRunning order outside outside start start elements
@@ -54,7 +55,8 @@ pub running-kept : (order : Order) (first now last : Outside) (start cur after :
     → next ≡ Belongs e
     → Told (reading_at now.slots cur.slot) (λ reading. IsNext order reading.opened cur.at next after.at)
     → MovesTo cur.at next after.at → HasReadElement next → Stands last after → GoesOn now last cur after
-    → length elements < kept_elements → more ≡ elements ++ e ∷ [] → IsRunning order first last start after more
+    → length elements < kept_elements → more ≡ elements ++ e ∷ []
+    → IsRunning order first last start after more
 running-kept order first now last start cur after elements more e next way is found moves read stands goes few
     more_is =
     record {
@@ -65,8 +67,8 @@ running-kept order first now last start cur after elements more e next way is fo
       runs = λ reading told.
           let here = subst (λ next. IsNext order reading.opened cur.at next after.at) is
           (running-found order first now start cur elements next after.at way found reading told) in
-          runs-kept order reading.opened start.at elements more cur.at e after.at (way.runs reading told) here.0
-          here.1 few more_is;
+          runs-kept order reading.opened start.at elements more cur.at e after.at (way.runs reading told)
+          here.0 here.1 few more_is;
     }
 
 pub running-passed : (order : Order) (first now last : Outside) (start cur after : Position)
@@ -84,8 +86,8 @@ running-passed order first now last start cur after elements e next way is found
       runs = λ reading told.
           let here = subst (λ next. IsNext order reading.opened cur.at next after.at) is
           (running-found order first now start cur elements next after.at way found reading told) in
-          runs-passed order reading.opened start.at elements cur.at e after.at (way.runs reading told) here.0 here.1
-          many;
+          runs-passed order reading.opened start.at elements cur.at e after.at (way.runs reading told)
+          here.0 here.1 many;
     }
 
 -- none is left
@@ -94,7 +96,8 @@ pub running-done : (order : Order) (first now : Outside) (start cur : Position) 
     → next ≡ Ended looked → end ≡ cur.at
     → Told (reading_at now.slots cur.slot) (λ reading. IsNext order reading.opened cur.at next read)
     → Told (reading_at first.slots start.slot)
-    (λ reading. IsRun order reading.opened start.at (record { elements = elements; end = end; looked = looked }) read)
+    (λ reading. IsRun order reading.opened start.at
+    (record { elements = elements; end = end; looked = looked }) read)
 running-done order first now start cur elements looked end read next way is end_is found = λ reading told.
     let here = subst (λ next. IsNext order reading.opened cur.at next read) is
     (running-found order first now start cur elements next read way found reading told) in
@@ -108,8 +111,8 @@ running-done order first now start cur elements looked end read next way is end_
     }
 
 -- what was drawn at the place reached is within the look of the place after the whole run
-pub running-look : (order : Order) (first now : Outside) (start cur : Position) (elements : List Element) (drew : ℕ)
-    → IsRunning order first now start cur elements
+pub running-look : (order : Order) (first now : Outside) (start cur : Position) (elements : List Element)
+    (drew : ℕ) → IsRunning order first now start cur elements
     → Told (reading_at now.slots cur.slot) (λ reading. drew ≤ look order reading.opened cur.at)
     → Told (reading_at first.slots start.slot)
     (λ reading. drew ≤ look order reading.opened (end_from order reading.opened start.at))

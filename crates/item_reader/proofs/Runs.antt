@@ -1,7 +1,9 @@
--- The run of FrSEs from a place on, as it is read one by one: its elements, of which the first are kept, and the place
--- after them.
-use Rattle.std.proofs.Common.{◌≡◌, ℕ, ◌+◌, ◌<◌, ◌≤◌, List, [], ◌∷◌, ◌++◌, length, take, sum_by, Option, Some, None}
-use Rattle.std.proofs.Common.{refl, sym, ap, ◌∙◌, subst, arith, add-zero, append_assoc, append-nil, length-append}
+-- The run of FrSEs from a place on, as it is read one by one: its elements, of which the first are kept, and
+-- the place after them.
+use Rattle.std.proofs.Common.{◌≡◌, ℕ, ◌+◌, ◌<◌, ◌≤◌, List, [], ◌∷◌, ◌++◌, length, take, sum_by, Option, Some}
+use Rattle.std.proofs.Common.{None}
+use Rattle.std.proofs.Common.{refl, sym, ap, ◌∙◌, subst, arith, add-zero, append_assoc, append-nil}
+use Rattle.std.proofs.Common.{length-append}
 use Rattle.std.proofs.Common.{length-take}
 use Rattle.std.proofs.lemmas.List.{take_all, take-append-le}
 use Rattle.std.proofs.lemmas.List.Sums.{sum_by-cons}
@@ -11,7 +13,8 @@ use Rattle.file_grammar.specs.Structure.{Structure, size_of, end_of, structure_a
 use Rattle.file_grammar.specs.Described.{element_at, longest_run}
 use Rattle.file_grammar.proofs.Structures.{stands-fits}
 use Rattle.file_grammar.proofs.Elements.{element-found}
-use Rattle.file_grammar.proofs.Runs.{structures_of, elements_of, run_at-none, longest_run-run, longest_run-again}
+use Rattle.file_grammar.proofs.Runs.{structures_of, elements_of, run_at-none, longest_run-run}
+use Rattle.file_grammar.proofs.Runs.{longest_run-again}
 use Rattle.file_grammar.proofs.Runs.{place-cons}
 use Rattle.item_reader.specs.Looked.{look}
 use Rattle.item_reader.specs.Judged.{kept_elements}
@@ -25,7 +28,8 @@ sum_by-structures : (run : List (Structure × Element))
     → sum_by (λ (e : Structure × Element). size_of e.0) run ≡ sum_by size_of (structures_of run)
 sum_by-structures [] = refl
 sum_by-structures (x ∷ xs) =
-    sum_by-cons (λ (e : Structure × Element). size_of e.0) x xs ∙ ap (λ n. size_of x.0 + n) (sum_by-structures xs)
+    sum_by-cons (λ (e : Structure × Element). size_of e.0) x xs
+    ∙ ap (λ n. size_of x.0 + n) (sum_by-structures xs)
     ∙ sym (sum_by-cons size_of x.0 (structures_of xs))
 
 end_from-structures : (order : Order) (file : List ℕ) (at : ℕ)
@@ -61,7 +65,8 @@ run-some order file at e found =
           ∙ sym (end_from-structures order file (end_of first)),
     )
 
--- the elements so far are the first of those at the front of the run, and the others are those from the place reached
+-- The elements so far are the first of those at the front of the run, and the others are those from the place
+-- reached.
 pub record Runs (order : Order) (file : List ℕ) (from : ℕ) (elements : List Element) (at : ℕ) : Type 0 where
   pub front : List Element
   pub all : elements_from order file from ≡ front ++ elements_from order file at
@@ -92,8 +97,8 @@ runs-next order file from elements more at e end runs found end_is kept =
     } in
     subst (Runs order file from more) (sym end_is) moved
 
-pub runs-kept : (order : Order) (file : List ℕ) (from : ℕ) (elements more : List Element) (at : ℕ) (e : Element)
-    (end : ℕ) → Runs order file from elements at → element_at order file at ≡ Some e
+pub runs-kept : (order : Order) (file : List ℕ) (from : ℕ) (elements more : List Element) (at : ℕ)
+    (e : Element) (end : ℕ) → Runs order file from elements at → element_at order file at ≡ Some e
     → end ≡ end_of (structure_at order file at) → length elements < kept_elements → more ≡ elements ++ e ∷ []
     → Runs order file from more end
 runs-kept order file from elements more at e end runs found end_is few more_is =
@@ -129,7 +134,8 @@ runs-done order file from elements at runs none =
 -- ---- looks
 
 -- the look of the place after a run goes at least as far as that of its beginning
-pub look-end : (order : Order) (file : List ℕ) (at : ℕ) → look order file at ≤ look order file (end_from order file at)
+pub look-end : (order : Order) (file : List ℕ) (at : ℕ)
+    → look order file at ≤ look order file (end_from order file at)
 look-end order file at = by (element_at order file at) refl
   where
     by : (o : Option Element) → element_at order file at ≡ o

@@ -1,5 +1,6 @@
 -- The run of FrSEs after an FrSH, as it is read from the file, and the entry that both make.
-use Rattle.std.specs.Prelude.{◌≡◌, ℕ, ◌+◌, ◌<◌, ◌≤◌, ⊤, ◌==◌, ◌&&◌, nat_le, Bool, List, map, take, length, sum_by}
+use Rattle.std.specs.Prelude.{◌≡◌, ℕ, ◌+◌, ◌<◌, ◌≤◌, ⊤, ◌==◌, ◌&&◌, nat_le, Bool, List, map, take, length}
+use Rattle.std.specs.Prelude.{sum_by}
 use Rattle.std.specs.Prelude.{Option, Some, None}
 use Rattle.scalar_types.specs.declared.Order.{Order}
 use Rattle.frame_head.specs.declared.structure.Common.{Common}
@@ -26,8 +27,8 @@ may_be_element at common =
 -- the element of every file in which an FrSE with this body stands
 abbrev pub Elements : Order → List ℕ → Option Element → Type 0
 Elements order body found =
-    (file : List ℕ) (at : ℕ) (p : Placed) → IsPlaced order file at p → at + p.length ≤ file_limit → p.class ≡ 2
-    → body ≡ body_of file p → element_at order file at ≡ found
+    (file : List ℕ) (at : ℕ) (p : Placed) → IsPlaced order file at p → at + p.length ≤ file_limit
+    → p.class ≡ 2 → body ≡ body_of file p → element_at order file at ≡ found
 
 -- the elements of the longest run from a place on, and the place after it
 abbrev pub elements_from : Order → List ℕ → ℕ → List Element

@@ -3,7 +3,8 @@
 //!
 //! The structure after a run is looked at, and what is known of it is handed on.
 
-ghost use Rattle.std.specs.Prelude.{◌≡◌, ◌≢◌, ◌+◌, ◌≤◌, ◌==◌, ◌&&◌, ℕ, max, nat_le, length, [], Some, Err, IfOk};
+ghost use Rattle.std.specs.Prelude.{◌≡◌, ◌≢◌, ◌+◌, ◌≤◌, ◌==◌, ◌&&◌, ℕ, max, nat_le, length, [], Some, Err};
+ghost use Rattle.std.specs.Prelude.{IfOk};
 ghost use Rattle.frame_outside.specs.Counts.{Rose};
 ghost use Rattle.frame_outside.specs.Shelf.{Told, reading_at};
 ghost use Rattle.structure_source.specs.Source.{Stands, GoesOn, drawn};
@@ -79,7 +80,8 @@ pub fn read_run<S: Shelf>(
     ensures stands { Stands (S.outside shelf.new) source.new }
     ensures on { GoesOn (S.outside shelf.old) (S.outside shelf.new) source.old source.new }
     ensures bounded { Told (reading_at (S.outside shelf.old).slots source.old.slot)
-        (λ reading. drawn source.new ≤ look order reading.opened (end_from order reading.opened source.old.at)) }
+        (λ reading. drawn source.new
+        ≤ look order reading.opened (end_from order reading.opened source.old.at)) }
 {
     let mut elements = ElementList::new(alloc);
     loop {
