@@ -59,7 +59,25 @@ impl Cursor {
         if let Some(reason) = size_reason(common.length) {
             return Err(self.state.fault(reason).into());
         }
-        let placed = placed_at(self.state.at, common);
+        self.take(shelf, placed_at(self.state.at, common))
+    }
+
+    /// Takes the item that begins with the structure at the place reached.
+    fn take<S: Shelf>(&mut self, shelf: &mut S, placed: Placed) -> Result<Item, ReadError>
+        requires { HasPassed (S.outside shelf.old) self.old placed }
+        ensures answers { InFile (S.outside shelf.old) self.old (λ h. GivesNext h result self.new) }
+        ensures kept { OnOk result (IsKept self.old.state self.new.state) }
+        ensures moved { OnOk result (self.old.state.at < self.new.state.at) }
+        ensures read { OnOk result (ReadsTo self.new.state.at self.new.looked self.new.source.at) }
+        ensures closed { IfOk result (λ item. ClosesBy item self.new.state.closed) }
+        ensures device { result ≡ Err ReadError.Device
+            → Rose (S.outside shelf.old).faults (S.outside shelf.new).faults }
+        ensures order { self.new.state.segment.order ≡ self.old.state.segment.order }
+        ensures stands { Stands (S.outside shelf.new) self.new.source }
+        ensures on { GoesOn (S.outside shelf.old) (S.outside shelf.new) self.old.source self.new.source }
+        ensures ahead { OnErr result (InFile (S.outside shelf.old) self.old
+            (λ h. IsWithinLook h.order h.file h.before.place (drawn self.new.source))) }
+    {
         match kind_of(&self.state.dictionary, placed.class) {
             Kind::FrSH => self.take_entry(shelf, placed),
             Kind::FrSE => self.refuse_element(shelf, placed),
