@@ -21,3 +21,4 @@ pub mod Collecting
 pub mod Running
 pub mod Runs
 pub mod Recording
+pub mod Advancing
