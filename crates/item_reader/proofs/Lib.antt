@@ -2,11 +2,15 @@ pub mod FrameLinks
 pub mod FrameParts
 pub mod BodyHere
 pub mod CutEntry
+pub mod Begun
+pub mod Bringing
+pub mod Candidates
 pub mod Growing
 pub mod Holding
 pub mod Kept
 pub mod Located
 pub mod Numbers
+pub mod Looking
 pub mod Parts
 pub mod Passing
 pub mod Giving
@@ -14,3 +18,7 @@ pub mod Somewhere
 pub mod Taken
 pub mod Twins
 pub mod Collecting
+pub mod Running
+pub mod Runs
+pub mod Ending
+pub mod Entering

@@ -3,17 +3,20 @@
 //!
 //! The structure after a run is looked at, and what is known of it is handed on.
 
-ghost use Rattle.std.specs.Prelude.{◌≡◌, ◌≢◌, ◌+◌, ◌≤◌, ◌==◌, ◌&&◌, ℕ, max, nat_le, length, [], Some, Err, IfOk};
+ghost use Rattle.std.specs.Prelude.{◌≡◌, ◌≢◌, ◌+◌, ◌≤◌, ◌==◌, ◌&&◌, ℕ, max, nat_le, length, [], Some, Err};
+ghost use Rattle.std.specs.Prelude.{IfOk};
 ghost use Rattle.frame_outside.specs.Counts.{Rose};
 ghost use Rattle.frame_outside.specs.Shelf.{Told, reading_at};
 ghost use Rattle.structure_source.specs.Source.{Stands, GoesOn, drawn};
-ghost use Rattle.dictionary.specs.Same.{AreRead};
+ghost use Rattle.dictionary.specs.Same.{IsRead, AreRead};
 ghost use Rattle.layout_plan.specs.Body.{HasBody};
 ghost use Rattle.layout_plan.specs.BuiltIn.{structure_fields, element_fields};
 ghost use Rattle.file_grammar.specs.declared.fault.Fault.{Fault};
 ghost use Rattle.file_grammar.specs.Structure.{file_limit, record_limit};
+ghost use Rattle.file_grammar.specs.Fault.{fault_at};
 ghost use Rattle.item_reader.specs.Looked.{ReadsTo, look};
-ghost use Rattle.item_reader.specs.Entries.{IsNext, IsRun, Begins, Elements, may_be_element, end_from};
+ghost use Rattle.item_reader.specs.Entries.{IsNext, MovesTo, HasReadElement, IsRun, Begins, Elements};
+ghost use Rattle.item_reader.specs.Entries.{may_be_element, end_from};
 
 use crate::item::ReadError;
 use crate::looked::Looked;
@@ -77,17 +80,15 @@ pub fn read_run<S: Shelf>(
     ensures stands { Stands (S.outside shelf.new) source.new }
     ensures on { GoesOn (S.outside shelf.old) (S.outside shelf.new) source.old source.new }
     ensures bounded { Told (reading_at (S.outside shelf.old).slots source.old.slot)
-        (λ reading. drawn source.new ≤ look order reading.opened (end_from order reading.opened source.old.at)) }
+        (λ reading. drawn source.new
+        ≤ look order reading.opened (end_from order reading.opened source.old.at)) }
 {
     let mut elements = ElementList::new(alloc);
     loop {
         let end = source.place();
         match next_element(alloc, source, shelf, order, plan, own)? {
-            Next::Element(element) => {
-                if elements.len() < KEPT_ELEMENTS {
-                    elements.push(element)?;
-                }
-            }
+            Next::Element(element) if elements.len() < KEPT_ELEMENTS => elements.push(element)?,
+            Next::Element(_) => {}
             Next::Ended(looked) => {
                 return Ok(Run {
                     elements,
@@ -111,6 +112,17 @@ fn next_element<S: Shelf>(
     requires plan { plan.now ≡ element_fields }
     requires stands { Stands (S.outside shelf.old) source.old }
     requires low { source.old.at ≤ file_limit + record_limit }
+    ensures found { IfOk result (λ next. Told (reading_at (S.outside shelf.old).slots source.old.slot)
+        (λ reading. IsNext order reading.opened source.old.at next source.new.at)) }
+    ensures moves { IfOk result (λ next. MovesTo source.old.at next source.new.at) }
+    ensures read { IfOk result HasReadElement }
+    ensures no_fault { (fault : Fault) → result ≢ Err (ReadError.Fault fault) }
+    ensures device { result ≡ Err ReadError.Device
+        → Rose (S.outside shelf.old).faults (S.outside shelf.new).faults }
+    ensures stands { Stands (S.outside shelf.new) source.new }
+    ensures on { GoesOn (S.outside shelf.old) (S.outside shelf.new) source.old source.new }
+    ensures bounded { Told (reading_at (S.outside shelf.old).slots source.old.slot)
+        (λ reading. drawn source.new ≤ look order reading.opened source.old.at) }
 {
     let at = source.place();
     let common = match source.head(shelf, order)? {
@@ -142,20 +154,18 @@ fn may_be_element(at: u64, common: Common) -> bool
         && at + common.length <= FILE_LIMIT
 }
 
-fn wrong(at: u64, field: u32, reason: Reason) -> Next {
+fn wrong(at: u64, field: u32, reason: Reason) -> Next
+    ensures { result ≡ Next.Ended (Looked.Wrong (fault_at reason (at, field))) }
+{
     Next::Ended(Looked::Wrong(Fault { at, field, reason }))
 }
 
 /// The element that a body spells.
-fn element_in(
-    alloc: Global,
-    order: Order,
-    plan: &Plan,
-    body: &[u8],
-) -> Result<Element, AllocError>
+fn element_in(alloc: Global, order: Order, plan: &Plan, body: &[u8]) -> Result<Element, AllocError>
     requires plan { plan.now ≡ element_fields }
     requires reads { HasBody order element_fields body.now }
-    ensures { IfOk result (λ element. Elements order body.now (Some element)) }
+    ensures spelled { IfOk result (λ element. Elements order body.now (Some element)) }
+    ensures read { IfOk result IsRead }
 {
     let name = Name::new(alloc, text_at(plan, order, body, 0))?;
     let text = Name::new(alloc, text_at(plan, order, body, 1))?;
