@@ -136,7 +136,7 @@ gives-open h item new takes body collects order sound none frame looked unclosed
 
 -- ---- what is given of a structure of a kind
 
-tells-other : (h : Here) (taken : Item) (item : Given) (k : Kind) → Tells h taken item → taken ≡ OtherItem (structure h)
+pub tells-other : (h : Here) (taken : Item) (item : Given) (k : Kind) → Tells h taken item → taken ≡ OtherItem (structure h)
     → kind h ≡ k → TellsKind k h (structure h) item
 tells-other h taken item k tells other is =
     subst (λ k. TellsKind k h (structure h) item) is (subst (λ i. Tells h i item) other tells)
@@ -149,7 +149,7 @@ table-item h s (given.Plain at class instance node) t = absurd t
 table-item h s (given.FrameEnd at class) t = absurd t
 table-item h s (given.FileEnd at class size seek) t = absurd t
 
-file_end-item : (h : Here) (s : Structure) (item : Given) → TellsKind FrEndOfFile h s item
+pub file_end-item : (h : Here) (s : Structure) (item : Given) → TellsKind FrEndOfFile h s item
     → (at : ℕ) × (class : ℕ) × (size : ℕ) × (seek : ℕ) × (item ≡ given.FileEnd at class size seek)
 file_end-item h s (given.FileEnd at class size seek) t = (at, class, size, seek, refl)
 file_end-item h s (given.Entry at class changed) t = absurd t
