@@ -22,3 +22,4 @@ pub mod Running
 pub mod Runs
 pub mod Recording
 pub mod Advancing
+pub mod Ending
