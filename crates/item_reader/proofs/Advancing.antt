@@ -1,11 +1,16 @@
 -- What holds of the file that a cursor reads, once the cursor has gone on.
-use Rattle.std.proofs.Common.{◌≡◌, ℕ, List, Option, Some, None, refl, sym, ap, ◌∙◌, subst}
-use Rattle.std.specs.Prelude.{option_map}
+use Rattle.std.proofs.Common.{◌≡◌, ◌<◌, ◌≤◌, ℕ, List, Result, Ok, Err, Option, Some, None, inl, inr, refl, sym, ap, ◌∙◌, subst}
+use Rattle.std.proofs.lemmas.Bool.{cases_lt, lt-ltb, le-ltb, cond-true, cond-false}
+use Rattle.std.specs.Prelude.{option_map, nat_lt, ◌⊎◌, OnErr}
 use Rattle.frame_outside.specs.Shelf.{Outside, Reading, Told, reading_at, passed}
 use Rattle.frame_outside.proofs.Slots.{reading_at-pass}
 use Rattle.structure_source.specs.Source.{Position, Stands, GoesOn}
 use Rattle.structure_source.proofs.Going.{at-now}
+use Rattle.file_grammar.specs.declared.reason.Reason.{Reason}
+use Rattle.file_grammar.specs.declared.reason.Reason.TheVariants.{LengthSmall, RecordLimit}
+use Rattle.file_grammar.specs.Structure.{record_limit}
 use Rattle.file_grammar.specs.Fault.{Here}
+use Rattle.item_reader.specs.Placed.{size_reason}
 use Rattle.item_reader.specs.declared.cursor.Cursor.{Cursor}
 use Rattle.item_reader.specs.State.{before_of}
 use Rattle.item_reader.specs.Cursor.{InFile}
@@ -63,3 +68,28 @@ pub in-file-same : (outside : Outside) (c d : Cursor) (P : Here → Type 0) → 
 in-file-same outside c d P source order before told = λ reading seen.
     subst P (here-same c d reading.opened order before)
     (told reading (ap (λ (p : Position). reading_at outside.slots p.slot) source ∙ seen))
+
+-- ---- the structure that was met
+
+pub size-none : (n : ℕ) → size_reason n ≡ None → (14 ≤ n) × (n ≤ record_limit)
+size-none n is = by (cases_lt n 14) (cases_lt record_limit n)
+  where
+    apart : (r : Reason) (o : Option Reason) → o ≡ Some r → o ≡ None → ⊥
+    apart r o a b = cc
+
+    small : n < 14 → ⊥
+    small lt = apart LengthSmall (size_reason n) (cond-true (nat_lt n 14) _ _ (lt-ltb n 14 lt)) is
+
+    large : 14 ≤ n → record_limit < n → ⊥
+    large le lt =
+        apart RecordLimit (size_reason n)
+        (cond-false (nat_lt n 14) _ _ (le-ltb n 14 le) ∙ cond-true (nat_lt record_limit n) _ _ (lt-ltb record_limit n lt)) is
+
+    by : (n < 14) ⊎ (14 ≤ n) → (record_limit < n) ⊎ (n ≤ record_limit) → (14 ≤ n) × (n ≤ record_limit)
+    by (inl lt) other = absurd (small lt)
+    by (inr le) (inl lt) = absurd (large le lt)
+    by (inr le) (inr within) = (le, within)
+
+pub on-err : {T E : Type 0} (r : Result T E) (P Q : Type 0) → (P → Q) → OnErr r P → OnErr r Q
+on-err (Ok x) P Q f said = tt
+on-err (Err x) P Q f said = f said
