@@ -1,7 +1,7 @@
 //! The reader of a file's items.
 
 ghost use Rattle.std.specs.Prelude.{◌≡◌, ◌≢◌, ◌+◌, ◌<◌, ◌≤◌, ℕ, [], false, true, None, Some, Ok, Err, IsSome};
-ghost use Rattle.std.specs.Prelude.{IfOk, OnOk, IfErr, OnErr};
+ghost use Rattle.std.specs.Prelude.{IfOk, OnOk, IfErr, OnErr, if◌then◌else◌};
 ghost use Rattle.std.specs.Option.{option_copied};
 ghost use Rattle.frame_outside.specs.Counts.{Rose};
 ghost use Rattle.frame_outside.specs.Shelf.{Told, IsSource, reading_at};
@@ -240,7 +240,7 @@ impl ItemReader {
     /// The breadth-first order of the frame that the last item has ended. None after any other item, and once the
     /// frame was lifted.
     pub fn numbering(&self) -> Option<&Numbering>
-        ensures { option_now result ≡ self.now.numbering }
+        ensures { option_copied result ≡ self.now.numbering }
     {
         self.cursor.state.numbering.as_ref()
     }
