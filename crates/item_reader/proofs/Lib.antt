@@ -2,8 +2,11 @@ pub mod FrameLinks
 pub mod FrameParts
 pub mod BodyHere
 pub mod CutEntry
+pub mod Ahead
 pub mod Growing
+pub mod HeaderRead
 pub mod Holding
+pub mod LentBody
 pub mod Located
 pub mod Numbers
 pub mod Parts

@@ -6,7 +6,7 @@ ghost use Rattle.frame_outside.specs.Shelf.{Told, reading_at};
 ghost use Rattle.structure_source.specs.Source.{Stands, GoesOn, drawn};
 ghost use Rattle.frame_head.specs.Header.{header_of};
 ghost use Rattle.file_grammar.specs.declared.fault.Fault.{Fault};
-ghost use Rattle.file_grammar.specs.Fault.{IsHeaderFault};
+ghost use Rattle.file_grammar.specs.Fault.{IsHeaderFault, fault_at};
 
 use crate::item::ReadError;
 use file_grammar::{Fault, Reason};
@@ -43,7 +43,9 @@ pub fn read_order<S: Shelf>(source: &mut StructureSource, shelf: &mut S) -> Resu
     }
 }
 
-fn header_fault(at: u64, reason: Reason) -> ReadError {
+fn header_fault(at: u64, reason: Reason) -> ReadError
+    ensures { result ≡ ReadError.Fault (fault_at reason (at, 0)) }
+{
     ReadError::Fault(Fault {
         at,
         field: 0,

@@ -170,7 +170,11 @@ impl ItemReader {
 
     /// The end of the file, once it was given.
     fn end_given(&self) -> Option<Item> {
-        if self.cursor.state.closed { self.last } else { None }
+        if self.cursor.state.closed {
+            self.last
+        } else {
+            None
+        }
     }
 
     /// Hands out the frame that has ended, with its end record, and keeps `empty` for the next one. Until the next
