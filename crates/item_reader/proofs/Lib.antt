@@ -12,6 +12,7 @@ pub mod Numbers
 pub mod Parts
 pub mod Passing
 pub mod Giving
+pub mod ReadOn
 pub mod Somewhere
 pub mod Taken
 pub mod Twins
