@@ -306,3 +306,100 @@ reads-begun old new before order c goes stands header at nothing same begins = r
       begun file order (shown c None None) here.0 here.1 same begins refl
       (subst (IsLooked c.state.segment.order file c.state.at c.source.at) (sym nothing) read);
 }
+
+-- ---- what a reader answers, by what it kept
+
+-- a reader with the end of the file, which it gives again
+pub record GivesAgain (r : Reader) (item : Given) : Type 0 where
+  pub closed : r.before.closed ≡ true
+  pub last : r.last ≡ Some item
+  pub end : IsFileEnd item
+
+pub gives-again : (c : Cursor) (last : Option Given) (r : Reader) (item : Given) (result : Option Given)
+    → shown c last None ≡ r → Keeps c last → result ≡ (if r.before.closed then r.last else None) → result ≡ Some item
+    → GivesAgain r item
+gives-again c last r item result is keeps given some =
+    let again = given-again r.before.closed r.last item (sym given ∙ some) in
+    let end = keeps.closed (ap (λ (r : Reader). r.before.closed) is ∙ again.0) in
+    record {
+      closed = again.0;
+      last = again.1;
+      end = subst IsFileEnd
+          (same_Some end.0 item (sym end.1 ∙ ap (λ (r : Reader). r.last) is ∙ again.1)) end.2;
+    }
+
+-- a reader that is not at the end of the file
+pub gives-on : (c : Cursor) (last : Option Given) (r : Reader) (result : Option Given) → shown c last None ≡ r
+    → Keeps c last → result ≡ (if r.before.closed then r.last else None) → result ≡ None → c.state.closed ≡ false
+gives-on c last r result is keeps given none =
+    unclosed-by c last keeps
+    (subst (λ (r : Reader). (if r.before.closed then r.last else None) ≡ None) (sym is) (sym given ∙ none))
+
+-- whose last item is no end
+pub no-end : (c : Cursor) (last : Option Given) (r : Reader) (item : Given) → shown c last None ≡ r → Keeps c last
+    → c.state.closed ≡ false → r.last ≡ Some item → IsFileEnd item → ⊥
+no-end c last r item is keeps unclosed given end =
+    let closed = keeps.unclosed item (ap (λ (r : Reader). r.last) is ∙ given) end in
+    absurd cc
+
+-- The reader goes on to an item: it stands before the item in its file, which the cursor gives.
+pub record Nexts (old new : Outside) (c next : Cursor) (last : Option Given) (r : Reader) (item : Given) : Type 0 where
+  pub is : shown c last None ≡ r
+  pub keeps : Keeps c last
+  pub unclosed : c.state.closed ≡ false
+  pub reads : Reads old r
+  pub answers : InFile old c (λ h. Gives h item next)
+  pub order : next.state.segment.order ≡ c.state.segment.order
+  pub stands : Stands new next.source
+  pub goes : GoesOn old new c.source next.source
+
+pub nexts-goes : (old new : Outside) (c next : Cursor) (last : Option Given) (r : Reader) (item : Given)
+    → Nexts old new c next last r item
+    → Told (file_of old r.position.slot) (λ file. Goes file r item (shown next (Some item) None))
+nexts-goes old new c next last r item n =
+    subst (λ (r : Reader). Told (file_of old r.position.slot) (λ file. Goes file r item (shown next (Some item) None)))
+    n.is (λ file told.
+    let own : Reads old (shown c last None) = subst (Reads old) (sym n.is) n.reads in
+    goes file c next last None None item n.unclosed (within-file old c own.stands n.keeps.read file told)
+    (in-file old c (λ h. Gives h item next) n.answers file told))
+
+pub nexts-read : (old new : Outside) (c next : Cursor) (last : Option Given) (r : Reader) (item : Given)
+    → Nexts old new c next last r item
+    → Told (file_of old r.position.slot) (λ file. HasRead file (shown next (Some item) None))
+nexts-read old new c next last r item n =
+    subst (λ (r : Reader). Told (file_of old r.position.slot) (λ file. HasRead file (shown next (Some item) None)))
+    n.is (λ file told.
+    let own : Reads old (shown c last None) = subst (Reads old) (sym n.is) n.reads in
+    read-more file c next last None None item n.unclosed (within-file old c own.stands n.keeps.read file told) n.order
+    (own.read refl file told) (in-file old c (λ h. Gives h item next) n.answers file told))
+
+pub nexts-reads : (old new : Outside) (c next : Cursor) (last : Option Given) (r : Reader) (item : Given)
+    → Nexts old new c next last r item → Reads new (shown next (Some item) None)
+nexts-reads old new c next last r item n = record {
+  stands = n.stands;
+  read = λ none file told.
+      nexts-read old new c next last r item n file
+      (ap (λ (r : Reader). file_of old r.position.slot) (sym n.is)
+      ∙ sym (file-goes old new c.source next.source n.goes) ∙ told);
+}
+
+-- what holds at the place that a reader has reached in its file
+pub in-reader : (outside : Outside) (c : Cursor) (last : Option Given) (r : Reader) (P : Here → Type 0)
+    → shown c last None ≡ r → InFile outside c P
+    → Told (file_of outside r.position.slot) (λ file. P (here_of file r))
+in-reader outside c last r P is holds =
+    subst (λ (r : Reader). Told (file_of outside r.position.slot) (λ file. P (here_of file r))) is
+    (in-file outside c P holds)
+
+-- a fault there is the first of the file
+pub first-reader : (outside : Outside) (c : Cursor) (last : Option Given) (r : Reader) (fault : Fault)
+    → shown c last None ≡ r → Keeps c last → c.state.closed ≡ false → Reads outside r
+    → InFile outside c (λ h. Faults h fault)
+    → Told (file_of outside r.position.slot) (λ file. IsFirstFault file fault)
+first-reader outside c last r fault is keeps unclosed reads faults =
+    subst (λ (r : Reader). Told (file_of outside r.position.slot) (λ file. IsFirstFault file fault)) is
+    (λ file told.
+    let own : Reads outside (shown c last None) = subst (Reads outside) (sym is) reads in
+    first-fault file (shown c last None) fault (own.read refl file told) unclosed
+    (within-file outside c own.stands keeps.read file told)
+    (in-file outside c (λ h. Faults h fault) faults file told))

@@ -169,7 +169,9 @@ impl ItemReader {
     }
 
     /// The end of the file, once it was given.
-    fn end_given(&self) -> Option<Item> {
+    fn end_given(&self) -> Option<Item>
+        ensures { result ≡ (if self.now.before.closed then self.now.last else None) }
+    {
         if self.cursor.state.closed {
             self.last
         } else {

@@ -206,9 +206,7 @@ impl State {
         let later = self.record_fault(placed, kind);
         let number = match self.segment.add(node(&self.dictionary, placed)) {
             Ok(number) => number,
-            Err(SegmentFault::InstanceTwice) => return Err(
-                self.fault(Reason::InstanceTwice).into(),
-            ),
+            Err(SegmentFault::InstanceTwice) => return Err(self.fault(Reason::InstanceTwice).into()),
             Err(SegmentFault::NoMemory) => return Err(ReadError::NoMemory),
         };
         if let Some(fault) = later {
