@@ -161,7 +161,10 @@ impl Cursor {
             (λ h. IsWithinLook h.order h.file h.before.place (drawn self.new.source))) }
     {
         self.bring_own(shelf, element)?;
-        Err(self.state.stray_fault(element, self.own.as_slice()).into())
+        Err(self
+            .state
+            .stray_fault(element, self.own.as_slice())
+            .into())
     }
 
     /// Takes a contents table. Its body is kept where its layout is readable, and never judged.

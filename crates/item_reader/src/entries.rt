@@ -147,7 +147,12 @@ fn wrong(at: u64, field: u32, reason: Reason) -> Next {
 }
 
 /// The element that a body spells.
-fn element_in(alloc: Global, order: Order, plan: &Plan, body: &[u8]) -> Result<Element, AllocError>
+fn element_in(
+    alloc: Global,
+    order: Order,
+    plan: &Plan,
+    body: &[u8],
+) -> Result<Element, AllocError>
     requires plan { plan.now ≡ element_fields }
     requires reads { HasBody order element_fields body.now }
     ensures { IfOk result (λ element. Elements order body.now (Some element)) }
