@@ -13,6 +13,7 @@ pub mod Parts
 pub mod Passing
 pub mod Giving
 pub mod ReadOn
+pub mod ReadsStay
 pub mod Somewhere
 pub mod Taken
 pub mod Twins
