@@ -1,11 +1,9 @@
 -- How far a reader reads ahead: no further than the look of the place that it has reached.
-use Rattle.std.proofs.Common.{◌≡◌, ℕ, ◌+◌, ◌≤◌, ◌&&◌, Bool, true, false, cond, List, Option, Some, None, length, refl, ap}
+use Rattle.std.proofs.Common.{◌≡◌, ℕ, ◌+◌, ◌≤◌, ◌&&◌, Bool, true, false, cond, List, length, refl}
 use Rattle.std.proofs.Common.{arith}
 use Rattle.std.specs.Prelude.{nat_le}
-use Rattle.std.specs.Option.{option_map}
 use Rattle.std.proofs.lemmas.Bool.{leb-true}
 use Rattle.scalar_types.specs.declared.Order.{Order}
-use Rattle.structure_source.specs.Source.{Position}
 use Rattle.file_grammar.specs.Structure.{record_limit, common_at, left_at}
 use Rattle.item_reader.specs.declared.looked.Looked.{Looked}
 use Rattle.item_reader.specs.declared.looked.Looked.TheVariants.{Nothing, Seen, Wrong}
@@ -23,7 +21,8 @@ by-tests true true true place told h = omega (arith, h refl)
 pub looks-reach : LooksReachBeyond
 looks-reach order file place =
     let told : ℕ = (common_at order file place).length in
-    by-tests (nat_le 8 (left_at file place)) (nat_le 14 told) (nat_le told record_limit) place told (leb-true 14 told)
+    by-tests (nat_le 8 (left_at file place)) (nat_le 14 told) (nat_le told record_limit) place told
+    (leb-true 14 told)
 
 -- what was looked at lies within the look
 pub looked-within : (order : Order) (file : List ℕ) (place read : ℕ) (looked : Looked)

@@ -1,10 +1,8 @@
 -- The header of a file, by the 40 bytes that were read from its beginning.
-use Rattle.std.proofs.Common.{◌≡◌, ℕ, ◌<◌, ◌≤◌, inl, inr, List, length, take, drop, Result, Ok, Err, sym, ap, ◌∙◌, subst}
+use Rattle.std.proofs.Common.{◌≡◌, ℕ, ◌<◌, ◌≤◌, inl, inr, List, length, take, drop, Err, sym, ap, ◌∙◌}
 use Rattle.std.proofs.Common.{arith}
 use Rattle.std.proofs.lemmas.List.{take_all}
 use Rattle.std.specs.Prelude.{min}
-use Rattle.scalar_types.specs.declared.Order.{Order}
-use Rattle.frame_head.specs.declared.header.HeadFault.{HeadFault}
 use Rattle.frame_head.specs.Header.{header_of}
 use Rattle.structure_source.specs.Source.{left_at}
 use Rattle.file_grammar.specs.declared.reason.Reason.TheVariants.{CutHeader, BadHeader}
@@ -30,13 +28,15 @@ is-front file header n at begins size count same long =
     let whole : n ≡ 40 = omega (arith, begins, size, count, long) in
     record {
       size = omega (arith, begins, size, count, long);
-      front = sym (ap (λ at. take 40 (drop at file)) begins) ∙ sym (ap (λ n. take n (drop at file)) whole) ∙ sym same
+      front = sym (ap (λ at. take 40 (drop at file)) begins) ∙ sym (ap (λ n. take n (drop at file)) whole)
+          ∙ sym same
           ∙ take_all n header (omega (arith, whole, size));
     }
 
 -- a part of the header is wrong
 pub bad-header : (file header : List ℕ) (place : ℕ) (fault : Fault) → IsFront file header
-    → header_of header ≡ Err (record { at = place }) → fault ≡ fault_at BadHeader (place, 0) → IsHeaderFault file fault
+    → header_of header ≡ Err (record { at = place }) → fault ≡ fault_at BadHeader (place, 0)
+    → IsHeaderFault file fault
 bad-header file header place fault front wrong is =
     let size : 40 ≤ length file = front.size in
     inr (place, ap header_of front.front ∙ wrong, λ short. omega (arith, size, short), is)

@@ -1,6 +1,5 @@
 -- What callers see of a reader, and what is lent once a frame was lifted: no record, and no body.
 use Rattle.std.proofs.Common.{◌≡◌, ℕ, List, [], map, Option, Some, None, IsSome, refl, sym, ap, ◌∙◌, subst}
-use Rattle.std.specs.Prelude.{slice_get}
 use Rattle.std.specs.Option.{option_map_or}
 use Rattle.link_graph.specs.Collected.{Bodied, Collected, Becomes, nothing_in}
 use Rattle.item_reader.specs.declared.cursor.Cursor.{Cursor}
@@ -27,7 +26,8 @@ shown c last error = record {
 
 -- no body is lent of a segment without an end record, after none but a frame's end
 pub lent-none : (last : Option Given) (own : List ℕ) (segment : Collected)
-    → ((item : Given) → last ≡ Some item → IsFrameEnd item) → segment.end_record ≡ None → body_in last own segment ≡ []
+    → ((item : Given) → last ≡ Some item → IsFrameEnd item) → segment.end_record ≡ None
+    → body_in last own segment ≡ []
 lent-none None own segment ended none = refl
 lent-none (Some (given.Entry at class changed)) own segment ended none = refl
 lent-none (Some (given.Plain at class instance node)) own segment ended none = absurd (ended _ refl)

@@ -1,6 +1,8 @@
 -- What a reader has read of a file, and its next item or fault.
-use Rattle.std.proofs.Common.{◌≡◌, ℕ, ◌<◌, ◌≤◌, inl, inr, Bool, true, false, eqb, if◌then◌else◌, List, [], ◌∷◌, ◌++◌}
-use Rattle.std.proofs.Common.{length, take, Option, Some, None, Result, Ok, Err, refl, sym, ap, subst, ◌∙◌, arith}
+use Rattle.std.proofs.Common.{◌≡◌, ℕ, ◌<◌, ◌≤◌, inl, inr, Bool, true, false, eqb, if◌then◌else◌, List, []}
+use Rattle.std.proofs.Common.{◌∷◌, ◌++◌}
+use Rattle.std.proofs.Common.{length, take, Option, Some, None, Result, Ok, Err, refl, sym, ap, subst, ◌∙◌}
+use Rattle.std.proofs.Common.{arith}
 use Rattle.std.proofs.lemmas.Bool.{eqb-false}
 use Rattle.std.proofs.lemmas.Option.{same_Some}
 use Rattle.std.specs.Option.{option_map}
@@ -28,7 +30,8 @@ use Rattle.item_reader.specs.Looked.{ReadsTo, IsLooked}
 use Rattle.item_reader.specs.State.{before_of}
 use Rattle.item_reader.specs.Judged.{ClosesBy}
 use Rattle.item_reader.specs.Cursor.{Keeps, IsReady, InFile, Gives}
-use Rattle.item_reader.specs.Reader.{Reader, file_of, HasLast, IsLast, HasRead, Reads, Goes, HasEnded, IsFileEnd, Faults, here_of}
+use Rattle.item_reader.specs.Reader.{Reader, file_of, HasLast, IsLast, HasRead, Reads, Goes, HasEnded}
+use Rattle.item_reader.specs.Reader.{IsFileEnd, Faults, here_of}
 use Rattle.item_reader.proofs.LentBody.{shown}
 
 -- ---- items
@@ -47,7 +50,7 @@ stands_by false h item unclosed within is none found =
     before_end : (m n : ℕ) → m ≤ n → (m ≡ n → ⊥) → m < n
     before_end m n within apart = omega (arith, within, apart)
 
-pub stands : (h : Here) (item : Item) → h.before.closed ≡ false → place h ≤ length h.file → fault_here h ≡ None
+stands : (h : Here) (item : Item) → h.before.closed ≡ false → place h ≤ length h.file → fault_here h ≡ None
     → item_here h ≡ Some item → MayStand h.order h.file h.before item
 stands h item unclosed within none found =
     stands_by (eqb (place h) (length h.file)) h item unclosed within refl
@@ -63,7 +66,7 @@ stand-more order file b [] last item stand may =
 stand-more order file b (first ∷ items) last item stand may =
     (stand.0, stand-more order file (after order b first) items last item stand.1 may)
 
-pub begins-more : (file : List ℕ) (order : Order) (items : List Item) (last : Before) (item : Item)
+begins-more : (file : List ℕ) (order : Order) (items : List Item) (last : Before) (item : Item)
     → Begins file order items last → MayStand order file last item
     → Begins file order (items ++ item ∷ []) (after order last item)
 begins-more file order items last item begins may =
@@ -87,12 +90,13 @@ told-file_of outside slot P holds = told-file (reading_at outside.slots slot) P 
 
 -- and the other way round
 of-file : (told : Option Reading) (P : List ℕ → Type 0)
-    → Told (option_map (λ (reading : Reading). reading.opened) told) P → Told told (λ reading. P reading.opened)
+    → Told (option_map (λ (reading : Reading). reading.opened) told) P → Told told
+    (λ reading. P reading.opened)
 of-file None P holds reading is = absurd cc
 of-file (Some first) P holds reading is =
     subst (λ (r : Reading). P r.opened) (same_Some first reading is) (holds first.opened refl)
 
-pub of-file_of : (outside : Outside) (slot : ℕ) (P : List ℕ → Type 0) → Told (file_of outside slot) P
+of-file_of : (outside : Outside) (slot : ℕ) (P : List ℕ → Type 0) → Told (file_of outside slot) P
     → Told (reading_at outside.slots slot) (λ reading. P reading.opened)
 of-file_of outside slot P holds = of-file (reading_at outside.slots slot) P holds
 
@@ -121,7 +125,7 @@ read-from place (Seen common) read is = omega (arith, is)
 read-from place (Wrong fault) read is = is
 
 -- the place reached is within the file
-pub within-file : (outside : Outside) (c : Cursor) → Stands outside c.source
+within-file : (outside : Outside) (c : Cursor) → Stands outside c.source
     → ReadsTo c.state.at c.looked c.source.at
     → Told (file_of outside c.source.slot) (λ file. c.state.at ≤ length file)
 within-file outside c stands reads = told-file_of outside c.source.slot (λ file. c.state.at ≤ length file)
@@ -138,17 +142,6 @@ pub given-again : (closed : Bool) (last : Option Given) (item : Given)
 given-again true last item is = (refl, is)
 given-again false last item is = absurd cc
 
--- a reader that gave no end again is not closed
-pub unclosed-by : (c : Cursor) (last : Option Given) → Keeps c last → (if c.state.closed then last else None) ≡ None
-    → c.state.closed ≡ false
-unclosed-by c last keeps none = by c.state.closed last keeps.closed none
-  where
-    by : (closed : Bool) (last : Option Given)
-        → (closed ≡ true → (item : Given) × (last ≡ Some item) × IsFileEnd item)
-        → (if closed then last else None) ≡ None → closed ≡ false
-    by true last given none = let some = (given refl).1 in absurd cc
-    by false last given none = refl
-
 -- a file is closed by its end
 pub closed-by : (item : Given) (closed : Bool) → ClosesBy item closed → IsFileEnd item → closed ≡ true
 closed-by (given.Entry at class changed) closed is end = absurd end
@@ -162,36 +155,76 @@ pub has-ended : (file : List ℕ) (r : Reader) → HasRead file r → r.before.c
 has-ended file r read closed =
     (read.items, record { begins = read.begins; closed = closed; ends = read.end closed })
 
--- ---- the next item
+-- ---- a reader that has not ended
 
--- a reader that has not ended is ready for it
-pub is-ready : (outside : Outside) (c : Cursor) (last : Option Given) (r : Reader) → shown c last None ≡ r
-    → Keeps c last → c.state.closed ≡ false → Reads outside r → IsReady outside c
-is-ready outside c last r is keeps unclosed reads =
-    let own : Reads outside (shown c last None) = subst (Reads outside) (sym is) reads in
+-- There was no error and no end yet: this is what the reader keeps, and it reads its file.
+pub record IsGoing (outside : Outside) (c : Cursor) (last : Option Given) (error : Option ReadError)
+    (r : Reader)
+    : Type 0 where
+  pub is : shown c last error ≡ r
+  pub none : error ≡ None
+  pub keeps : Keeps c last
+  pub unclosed : c.state.closed ≡ false
+  pub reads : Reads outside (shown c last error)
+
+-- a reader that gave no end again is not closed
+unclosed-by : (closed : Bool) (last : Option Given)
+    → (closed ≡ true → (item : Given) × (last ≡ Some item) × IsFileEnd item)
+    → (if closed then last else None) ≡ None → closed ≡ false
+unclosed-by true last given none = let some = (given refl).1 in absurd cc
+unclosed-by false last given none = refl
+
+pub is-going : (outside : Outside) (c : Cursor) (last : Option Given) (error : Option ReadError) (r : Reader)
+    (given : Option Given) → shown c last error ≡ r → (error ≡ None → Keeps c last) → error ≡ None
+    → given ≡ (if r.before.closed then r.last else None) → given ≡ None → Reads outside r
+    → IsGoing outside c last error r
+is-going outside c last error r given is keeps none again ended reads =
+    let untold : (if r.before.closed then r.last else None) ≡ None = sym again ∙ ended in
+    record {
+      is = is;
+      none = none;
+      keeps = keeps none;
+      unclosed = unclosed-by c.state.closed last (keeps none).closed
+          (subst (λ (r : Reader). (if r.before.closed then r.last else None) ≡ None) (sym is) untold);
+      reads = subst (Reads outside) (sym is) reads;
+    }
+
+-- it is ready for the next item
+pub is-ready : (outside : Outside) (c : Cursor) (last : Option Given) (error : Option ReadError) (r : Reader)
+    → IsGoing outside c last error r → IsReady outside c
+is-ready outside c last error r going =
     let looked : List ℕ → Type 0 =
     λ file. IsLooked c.state.segment.order file c.state.at c.source.at c.looked in
     record {
-      stands = own.stands;
-      sound = keeps.sound;
-      pending = keeps.pending;
-      unclosed = unclosed;
-      read = keeps.read;
-      looked = of-file_of outside c.source.slot looked (λ file told. (own.read refl file told).looked);
+      stands = going.reads.stands;
+      sound = going.keeps.sound;
+      pending = going.keeps.pending;
+      unclosed = going.unclosed;
+      read = going.keeps.read;
+      looked = of-file_of outside c.source.slot looked
+          (λ file told. (going.reads.read going.none file told).looked);
     }
 
--- what holds at the place reached of the file that a reader reads
-pub in-file : (outside : Outside) (c : Cursor) (P : Here → Type 0) → InFile outside c P
-    → Told (file_of outside c.source.slot)
-    (λ file. P (record { order = c.state.segment.order; file = file; before = before_of c.state }))
-in-file outside c P holds = told-file_of outside c.source.slot
-    (λ file. P (record { order = c.state.segment.order; file = file; before = before_of c.state })) holds
+-- the place that it has reached is within the file
+within : (outside : Outside) (c : Cursor) (last : Option Given) (error : Option ReadError) (r : Reader)
+    → IsGoing outside c last error r → Told (file_of outside c.source.slot) (λ file. c.state.at ≤ length file)
+within outside c last error r going = within-file outside c going.reads.stands going.keeps.read
+
+-- what holds at that place
+pub in-reader : (outside : Outside) (c : Cursor) (last : Option Given) (error : Option ReadError) (r : Reader)
+    (P : Here → Type 0) → IsGoing outside c last error r → InFile outside c P
+    → Told (file_of outside r.position.slot) (λ file. P (here_of file r))
+in-reader outside c last error r P going holds =
+    subst (λ (r : Reader). Told (file_of outside r.position.slot) (λ file. P (here_of file r))) going.is
+    (told-file_of outside c.source.slot (λ file. P (here_of file (shown c last error))) holds)
+
+-- ---- the next item
 
 -- the item that was taken is the next one
-pub goes : (file : List ℕ) (c new : Cursor) (last : Option Given) (error next : Option ReadError) (item : Given)
+goes : (file : List ℕ) (c new : Cursor) (last : Option Given) (error : Option ReadError) (item : Given)
     → c.state.closed ≡ false → c.state.at ≤ length file → Gives (here_of file (shown c last error)) item new
-    → Goes file (shown c last error) item (shown new (Some item) next)
-goes file c new last error next item unclosed within gives = record {
+    → Goes file (shown c last error) item (shown new (Some item) error)
+goes file c new last error item unclosed within gives = record {
   taken = gives.takes.taken;
   stands = stands (here_of file (shown c last error)) gives.takes.taken unclosed within gives.takes.judged
       gives.takes.is;
@@ -202,36 +235,74 @@ goes file c new last error next item unclosed within gives = record {
 }
 
 -- one more item was read
-pub read-more : (file : List ℕ) (c new : Cursor) (last : Option Given) (error next : Option ReadError) (item : Given)
-    → c.state.closed ≡ false → c.state.at ≤ length file → new.state.segment.order ≡ c.state.segment.order
-    → HasRead file (shown c last error) → Gives (here_of file (shown c last error)) item new
-    → HasRead file (shown new (Some item) next)
-read-more file c new last error next item unclosed within same read gives =
+read-more : (file : List ℕ) (c new : Cursor) (last : Option Given) (error : Option ReadError) (item : Given)
+    → new.state.segment.order ≡ c.state.segment.order → HasRead file (shown c last error)
+    → Gives (here_of file (shown c last error)) item new
+    → Goes file (shown c last error) item (shown new (Some item) error)
+    → HasRead file (shown new (Some item) error)
+read-more file c new last error item same read gives goes =
     let old : Reader = shown c last error in
     let now : Before = before_of new.state in
-    let taken : Item = gives.takes.taken in
-    let items : List Item = read.items ++ taken ∷ [] in
-    let may : MayStand old.order file old.before taken =
-    stands (here_of file old) taken unclosed within gives.takes.judged gives.takes.is in
-    let begins : Begins file old.order items (after old.order old.before taken) =
-    begins-more file old.order read.items old.before taken read.begins may in
+    let items : List Item = read.items ++ goes.taken ∷ [] in
+    let begins : Begins file old.order items (after old.order old.before goes.taken) =
+    begins-more file old.order read.items old.before goes.taken read.begins goes.stands in
     let last : HasLast file old.order items item =
     record {
       earlier = read.items;
       before = old.before;
       begins = read.begins;
-      taken = taken;
+      taken = goes.taken;
       items_are = refl;
-      tells = gives.takes.tells;
+      tells = goes.tells;
     } in
     record {
       items = items;
       begins = subst (λ order. Begins file order items now) (sym same)
-          (subst (Begins file old.order items) (sym gives.takes.after) begins);
+          (subst (Begins file old.order items) (sym goes.before) begins);
       last = subst (λ order. HasLast file order items item) (sym same) last;
       end = gives.end;
-      looked = subst (λ order. IsLooked order file new.state.at new.source.at new.looked) (sym same) gives.looked;
+      looked = subst (λ order. IsLooked order file new.state.at new.source.at new.looked)
+          (sym same) gives.looked;
     }
+
+pub next-goes : (outside : Outside) (c new : Cursor) (last : Option Given) (error : Option ReadError)
+    (r : Reader)
+    (item : Given) → IsGoing outside c last error r → InFile outside c (λ h. Gives h item new)
+    → Told (file_of outside r.position.slot) (λ file. Goes file r item (shown new (Some item) error))
+next-goes outside c new last error r item going answers =
+    subst (λ (r : Reader). Told (file_of outside r.position.slot)
+    (λ file. Goes file r item (shown new (Some item) error))) going.is (λ file told.
+    goes file c new last error item going.unclosed (within outside c last error r going file told)
+    (told-file_of outside c.source.slot (λ file. Gives
+    (here_of file (shown c last error)) item new) answers file told))
+
+pub next-read : (outside : Outside) (c new : Cursor) (last : Option Given) (error : Option ReadError)
+    (r : Reader)
+    (item : Given) → IsGoing outside c last error r → InFile outside c (λ h. Gives h item new)
+    → new.state.segment.order ≡ c.state.segment.order
+    → Told (file_of outside r.position.slot) (λ file. HasRead file (shown new (Some item) error))
+next-read outside c new last error r item going answers order =
+    subst (λ (r : Reader). Told (file_of outside r.position.slot)
+    (λ file. HasRead file (shown new (Some item) error))) going.is (λ file told.
+    let gives : Gives (here_of file (shown c last error)) item new =
+    told-file_of outside c.source.slot (λ file. Gives
+    (here_of file (shown c last error)) item new) answers file told in
+    read-more file c new last error item order (going.reads.read going.none file told) gives
+    (goes file c new last error item going.unclosed (within outside c last error r going file told) gives))
+
+pub next-reads : (old now : Outside) (c new : Cursor) (last : Option Given) (error : Option ReadError)
+    (r : Reader)
+    (item : Given) → IsGoing old c last error r → InFile old c (λ h. Gives h item new)
+    → new.state.segment.order ≡ c.state.segment.order → Stands now new.source
+    → GoesOn old now c.source new.source
+    → Reads now (shown new (Some item) error)
+next-reads old now c new last error r item going answers order stands goes = record {
+  stands = stands;
+  read = λ none file told.
+      next-read old c new last error r item going answers order file
+      (ap (λ (r : Reader). file_of old r.position.slot) (sym going.is)
+      ∙ sym (file-goes old now c.source new.source goes) ∙ told);
+}
 
 -- ---- the first fault
 
@@ -250,14 +321,26 @@ first-by file r fault read unclosed within (inr (item, none, found, closes, hold
     }
 
 -- a fault at what was read is the first of the file
-pub first-fault : (file : List ℕ) (r : Reader) (fault : Fault) → HasRead file r → r.before.closed ≡ false
+first-fault : (file : List ℕ) (r : Reader) (fault : Fault) → HasRead file r → r.before.closed ≡ false
     → r.before.place ≤ length file → Faults (here_of file r) fault → IsFirstFault file fault
 first-fault file r fault read unclosed within faults = inr (first-by file r fault read unclosed within faults)
+
+pub first-reader : (outside : Outside) (c : Cursor) (last : Option Given) (error : Option ReadError)
+    (r : Reader)
+    (fault : Fault) → IsGoing outside c last error r → InFile outside c (λ h. Faults h fault)
+    → Told (file_of outside r.position.slot) (λ file. IsFirstFault file fault)
+first-reader outside c last error r fault going faults =
+    subst (λ (r : Reader). Told (file_of outside r.position.slot) (λ file. IsFirstFault file fault)) going.is
+    (λ file told.
+    first-fault file (shown c last error) fault (going.reads.read going.none file told) going.unclosed
+    (within outside c last error r going file told)
+    (told-file_of outside c.source.slot (λ file. Faults
+    (here_of file (shown c last error)) fault) faults file told))
 
 -- ---- the beginning
 
 -- a reader that has read the header alone
-pub begun : (file : List ℕ) (order : Order) (r : Reader) → 40 ≤ length file
+begun : (file : List ℕ) (order : Order) (r : Reader) → 40 ≤ length file
     → header_of (take 40 file) ≡ Ok order → r.order ≡ order → r.before ≡ nothing_yet → r.last ≡ None
     → IsLooked r.order file r.before.place r.position.at r.looked → HasRead file r
 begun file order r size header same before none looked =
@@ -290,7 +373,8 @@ same-error {A} {B} {E} r e x is said =
     let same : x ≡ e = subst (λ (r : Result A E). IsErrAnd r (λ y. y ≡ e)) is said in
     ap Err (sym same)
 
-pub reads-begun : (old new : Outside) (before : Position) (order : Order) (c : Cursor) → GoesOn old new before c.source
+pub reads-begun : (old new : Outside) (before : Position) (order : Order) (c : Cursor)
+    → GoesOn old new before c.source
     → Stands new c.source
     → Told (reading_at old.slots before.slot)
     (λ reading. (40 ≤ length reading.opened) × (header_of (take 40 reading.opened) ≡ Ok order))
@@ -306,100 +390,3 @@ reads-begun old new before order c goes stands header at nothing same begins = r
       begun file order (shown c None None) here.0 here.1 same begins refl
       (subst (IsLooked c.state.segment.order file c.state.at c.source.at) (sym nothing) read);
 }
-
--- ---- what a reader answers, by what it kept
-
--- a reader with the end of the file, which it gives again
-pub record GivesAgain (r : Reader) (item : Given) : Type 0 where
-  pub closed : r.before.closed ≡ true
-  pub last : r.last ≡ Some item
-  pub end : IsFileEnd item
-
-pub gives-again : (c : Cursor) (last : Option Given) (r : Reader) (item : Given) (result : Option Given)
-    → shown c last None ≡ r → Keeps c last → result ≡ (if r.before.closed then r.last else None) → result ≡ Some item
-    → GivesAgain r item
-gives-again c last r item result is keeps given some =
-    let again = given-again r.before.closed r.last item (sym given ∙ some) in
-    let end = keeps.closed (ap (λ (r : Reader). r.before.closed) is ∙ again.0) in
-    record {
-      closed = again.0;
-      last = again.1;
-      end = subst IsFileEnd
-          (same_Some end.0 item (sym end.1 ∙ ap (λ (r : Reader). r.last) is ∙ again.1)) end.2;
-    }
-
--- a reader that is not at the end of the file
-pub gives-on : (c : Cursor) (last : Option Given) (r : Reader) (result : Option Given) → shown c last None ≡ r
-    → Keeps c last → result ≡ (if r.before.closed then r.last else None) → result ≡ None → c.state.closed ≡ false
-gives-on c last r result is keeps given none =
-    unclosed-by c last keeps
-    (subst (λ (r : Reader). (if r.before.closed then r.last else None) ≡ None) (sym is) (sym given ∙ none))
-
--- whose last item is no end
-pub no-end : (c : Cursor) (last : Option Given) (r : Reader) (item : Given) → shown c last None ≡ r → Keeps c last
-    → c.state.closed ≡ false → r.last ≡ Some item → IsFileEnd item → ⊥
-no-end c last r item is keeps unclosed given end =
-    let closed = keeps.unclosed item (ap (λ (r : Reader). r.last) is ∙ given) end in
-    absurd cc
-
--- The reader goes on to an item: it stands before the item in its file, which the cursor gives.
-pub record Nexts (old new : Outside) (c next : Cursor) (last : Option Given) (r : Reader) (item : Given) : Type 0 where
-  pub is : shown c last None ≡ r
-  pub keeps : Keeps c last
-  pub unclosed : c.state.closed ≡ false
-  pub reads : Reads old r
-  pub answers : InFile old c (λ h. Gives h item next)
-  pub order : next.state.segment.order ≡ c.state.segment.order
-  pub stands : Stands new next.source
-  pub goes : GoesOn old new c.source next.source
-
-pub nexts-goes : (old new : Outside) (c next : Cursor) (last : Option Given) (r : Reader) (item : Given)
-    → Nexts old new c next last r item
-    → Told (file_of old r.position.slot) (λ file. Goes file r item (shown next (Some item) None))
-nexts-goes old new c next last r item n =
-    subst (λ (r : Reader). Told (file_of old r.position.slot) (λ file. Goes file r item (shown next (Some item) None)))
-    n.is (λ file told.
-    let own : Reads old (shown c last None) = subst (Reads old) (sym n.is) n.reads in
-    goes file c next last None None item n.unclosed (within-file old c own.stands n.keeps.read file told)
-    (in-file old c (λ h. Gives h item next) n.answers file told))
-
-pub nexts-read : (old new : Outside) (c next : Cursor) (last : Option Given) (r : Reader) (item : Given)
-    → Nexts old new c next last r item
-    → Told (file_of old r.position.slot) (λ file. HasRead file (shown next (Some item) None))
-nexts-read old new c next last r item n =
-    subst (λ (r : Reader). Told (file_of old r.position.slot) (λ file. HasRead file (shown next (Some item) None)))
-    n.is (λ file told.
-    let own : Reads old (shown c last None) = subst (Reads old) (sym n.is) n.reads in
-    read-more file c next last None None item n.unclosed (within-file old c own.stands n.keeps.read file told) n.order
-    (own.read refl file told) (in-file old c (λ h. Gives h item next) n.answers file told))
-
-pub nexts-reads : (old new : Outside) (c next : Cursor) (last : Option Given) (r : Reader) (item : Given)
-    → Nexts old new c next last r item → Reads new (shown next (Some item) None)
-nexts-reads old new c next last r item n = record {
-  stands = n.stands;
-  read = λ none file told.
-      nexts-read old new c next last r item n file
-      (ap (λ (r : Reader). file_of old r.position.slot) (sym n.is)
-      ∙ sym (file-goes old new c.source next.source n.goes) ∙ told);
-}
-
--- what holds at the place that a reader has reached in its file
-pub in-reader : (outside : Outside) (c : Cursor) (last : Option Given) (r : Reader) (P : Here → Type 0)
-    → shown c last None ≡ r → InFile outside c P
-    → Told (file_of outside r.position.slot) (λ file. P (here_of file r))
-in-reader outside c last r P is holds =
-    subst (λ (r : Reader). Told (file_of outside r.position.slot) (λ file. P (here_of file r))) is
-    (in-file outside c P holds)
-
--- a fault there is the first of the file
-pub first-reader : (outside : Outside) (c : Cursor) (last : Option Given) (r : Reader) (fault : Fault)
-    → shown c last None ≡ r → Keeps c last → c.state.closed ≡ false → Reads outside r
-    → InFile outside c (λ h. Faults h fault)
-    → Told (file_of outside r.position.slot) (λ file. IsFirstFault file fault)
-first-reader outside c last r fault is keeps unclosed reads faults =
-    subst (λ (r : Reader). Told (file_of outside r.position.slot) (λ file. IsFirstFault file fault)) is
-    (λ file told.
-    let own : Reads outside (shown c last None) = subst (Reads outside) (sym is) reads in
-    first-fault file (shown c last None) fault (own.read refl file told) unclosed
-    (within-file outside c own.stands keeps.read file told)
-    (in-file outside c (λ h. Faults h fault) faults file told))

@@ -2,8 +2,10 @@
 -- from and written, and calls are refused. Crates that read and write on one shelf cite this.
 use Rattle.std.proofs.Common.{◌≡◌, ℕ, zero, suc, List, [], ◌∷◌, ◌++◌, take, refl, sym, ap, subst, ◌∙◌}
 use Rattle.std.specs.Option.{option_map}
-use Rattle.frame_outside.specs.Shelf.{Outside, Reading, Slot, Source, Target, IsSource, reading_at, pass, released}
-use Rattle.frame_outside.specs.Shelf.{Opens, Refuses, Passes, HandsOut, Makes, Writes, WritesPart, beginning_of}
+use Rattle.frame_outside.specs.Shelf.{Outside, Reading, Slot, Source, Target, IsSource, reading_at, pass}
+use Rattle.frame_outside.specs.Shelf.{released}
+use Rattle.frame_outside.specs.Shelf.{Opens, Refuses, Passes, HandsOut, Makes, Writes, WritesPart}
+use Rattle.frame_outside.specs.Shelf.{beginning_of}
 use Rattle.frame_outside.specs.Shelf.{write, writing_begun}
 use Rattle.frame_outside.proofs.Slots.{pass-zero, IsSource-pass, IsSource-write, IsSource-made, IsSource-more}
 use Rattle.frame_outside.proofs.Slots.{reading_at-write, reading_at-made, reading_at-more}
@@ -53,18 +55,21 @@ reads-passes old new slot n r apart passes reads =
     (reading_at-other old.slots slot n r.position.slot apart) reads
 
 -- none, of this slot or another
-pub reads-passes_none : (old new : Outside) (slot : ℕ) (r : Reader) → Passes old new slot 0 → Reads old r → Reads new r
+pub reads-passes_none : (old new : Outside) (slot : ℕ) (r : Reader) → Passes old new slot 0 → Reads old r
+    → Reads new r
 reads-passes_none old new slot r passes reads =
     reads-same old new r (passes.slots ∙ pass-zero old.slots slot) reads
 
 -- bytes were handed out from a place, a size was told, or a call was refused
-pub reads-hands_out : (old new : Outside) (n : ℕ) (r : Reader) → HandsOut old new n → Reads old r → Reads new r
+pub reads-hands_out : (old new : Outside) (n : ℕ) (r : Reader) → HandsOut old new n → Reads old r
+    → Reads new r
 reads-hands_out old new n r hands reads = reads-same old new r hands.slots reads
 
 -- ---- slots were given
 
 -- another source was opened
-pub reads-opens : (old new : Outside) (name : List ℕ) (slot : ℕ) (r : Reader) → Opens old new name slot → Reads old r
+pub reads-opens : (old new : Outside) (name : List ℕ) (slot : ℕ) (r : Reader) → Opens old new name slot
+    → Reads old r
     → Reads new r
 reads-opens old new name slot r opens reads =
     let more : List Slot = Source (beginning_of old.files name) ∷ [] in
@@ -73,11 +78,13 @@ reads-opens old new name slot r opens reads =
     (reading_at-more old.slots more r.position.slot reads.stands.source) reads
 
 -- or was not
-pub reads-refuses : (old new : Outside) (name : List ℕ) (r : Reader) → Refuses old new name → Reads old r → Reads new r
+pub reads-refuses : (old new : Outside) (name : List ℕ) (r : Reader) → Refuses old new name → Reads old r
+    → Reads new r
 reads-refuses old new name r refuses reads = reads-same old new r refuses.slots reads
 
 -- a target was made
-pub reads-makes : (old new : Outside) (name : List ℕ) (slot : ℕ) (r : Reader) → Makes old new name slot → Reads old r
+pub reads-makes : (old new : Outside) (name : List ℕ) (slot : ℕ) (r : Reader) → Makes old new name slot
+    → Reads old r
     → Reads new r
 reads-makes old new name slot r makes reads =
     let made : Slot = Target (writing_begun old.files name) in
@@ -94,7 +101,8 @@ reads-writes old new slot bytes r writes reads =
     (IsSource-write old.slots slot bytes r.position.slot reads.stands.source)
     (reading_at-write old.slots slot bytes r.position.slot) reads
 
-pub reads-writes_part : (old new : Outside) (slot : ℕ) (bytes : List ℕ) (r : Reader) → WritesPart old new slot bytes
+pub reads-writes_part : (old new : Outside) (slot : ℕ) (bytes : List ℕ) (r : Reader)
+    → WritesPart old new slot bytes
     → Reads old r → Reads new r
 reads-writes_part old new slot bytes r part reads =
     reads-writes old new slot (take part.count bytes) r part.writes reads

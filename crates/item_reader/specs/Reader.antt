@@ -64,8 +64,8 @@ abbrev pub IsLast : List ℕ → Order → List Item → Option Given → Type 0
 IsLast file order items None = items ≡ []
 IsLast file order items (Some given) = HasLast file order items given
 
--- the reader has given the items of the file up to its place, the end of the file only where nothing stands after it,
--- and has looked at what stands there
+-- the reader has given the items of the file up to its place, the end of the file only where nothing stands
+-- after it, and has looked at what stands there
 pub record HasRead (file : List ℕ) (r : Reader) : Type 0 where
   pub items : List Item
   pub begins : Begins file r.order items r.before

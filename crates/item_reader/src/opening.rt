@@ -15,7 +15,8 @@ use frame_outside::Shelf;
 use scalar_types::Order;
 use structure_source::StructureSource;
 
-/// The byte order that the header tells, or the fault of the header. The source stands at the beginning of its file.
+/// The byte order that the header tells, or the fault of the header. The source stands at the beginning of
+/// its file.
 pub fn read_order<S: Shelf>(source: &mut StructureSource, shelf: &mut S) -> Result<Order, ReadError>
     requires stands { Stands (S.outside shelf.old) source.old }
     requires beginning { source.old.at ≡ 0 }

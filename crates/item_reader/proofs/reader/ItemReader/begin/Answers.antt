@@ -17,18 +17,24 @@ returns-in_err-source-clause-draws g c = drawn-none (g.S.Shelf.outside c.args.sh
 
 pub returns-in_err-order-clause-draws : goal.returns-in_err-order-clause-draws
 returns-in_err-order-clause-draws g c =
-    drawn-few (g.S.Shelf.outside c.args.shelf.now) (g.S.Shelf.outside c.read_order.new.shelf) c.args.slot 65576
-    c.in_ok-source.source c.read_order.new.source c.in_ok-source.ensures c.read_order.ensures.on c.read_order.ensures.few
+    drawn-few (g.S.Shelf.outside c.args.shelf.now)
+    (g.S.Shelf.outside c.read_order.new.shelf) c.args.slot 65576
+    c.in_ok-source.source c.read_order.new.source c.in_ok-source.ensures c.read_order.ensures.on
+    c.read_order.ensures.few
 
 pub returns-in_err-new-clause-draws : goal.returns-in_err-new-clause-draws
 returns-in_err-new-clause-draws g c =
-    drawn-few (g.S.Shelf.outside c.args.shelf.now) (g.S.Shelf.outside c.read_order.new.shelf) c.args.slot 65576
-    c.in_ok-source.source c.read_order.new.source c.in_ok-source.ensures c.read_order.ensures.on c.read_order.ensures.few
+    drawn-few (g.S.Shelf.outside c.args.shelf.now)
+    (g.S.Shelf.outside c.read_order.new.shelf) c.args.slot 65576
+    c.in_ok-source.source c.read_order.new.source c.in_ok-source.ensures c.read_order.ensures.on
+    c.read_order.ensures.few
 
 pub returns-clause-draws : goal.returns-clause-draws
 returns-clause-draws g c =
-    drawn-few (g.S.Shelf.outside c.args.shelf.now) (g.S.Shelf.outside c.read_order.new.shelf) c.args.slot 65576
-    c.in_ok-source.source c.read_order.new.source c.in_ok-source.ensures c.read_order.ensures.on c.read_order.ensures.few
+    drawn-few (g.S.Shelf.outside c.args.shelf.now)
+    (g.S.Shelf.outside c.read_order.new.shelf) c.args.slot 65576
+    c.in_ok-source.source c.read_order.new.source c.in_ok-source.ensures c.read_order.ensures.on
+    c.read_order.ensures.few
 
 pub returns-in_err-order-clause-header : goal.returns-in_err-order-clause-header
 returns-in_err-order-clause-header g c = λ fault is file told.
@@ -52,5 +58,6 @@ returns-clause-reads g c =
     λ p. record { source = p; state = c.in_ok-new.field-0; own = c.new-3.result; looked = Nothing } in
     subst (λ (p : Position). Reads new (shown (at p) None None)) (sym c.source.view_is)
     (reads-begun old new c.in_ok-source.source c.in_ok-order.order (at c.read_order.new.source)
-    c.read_order.ensures.on c.read_order.ensures.stands c.in_ok-order.ensures.order c.in_ok-order.ensures.place refl
+    c.read_order.ensures.on c.read_order.ensures.stands c.in_ok-order.ensures.order
+    c.in_ok-order.ensures.place refl
     c.in_ok-new.ensures.order c.in_ok-new.ensures.before)

@@ -14,4 +14,5 @@ returns-clause-rest c =
     λ segment. record s.cursor { state = record s.cursor.state { segment = segment; numbering = None } } in
     subst (λ segment. shown (given segment) s.last s.error
     ≡ record old { segment = c.args.empty; numbering = None; body = [] }) (sym c.replace.ensures.after)
-    (lifted s.cursor s.last s.error old c.args.empty c.self.view_is c.requires.last c.requires.ended c.requires.empty)
+    (lifted s.cursor s.last s.error old c.args.empty c.self.view_is c.requires.last c.requires.ended
+    c.requires.empty)
