@@ -1,6 +1,6 @@
 -- What callers know of a reader of items, and what its calls do.
 use Rattle.std.specs.Prelude.{◌≡◌, ℕ, ◌+◌, ◌≤◌, ◌⊎◌, true, List, [], ◌∷◌, ◌++◌, map, Option, Some, None, ⊤}
-use Rattle.std.specs.Prelude.{option_map, slice_get}
+use Rattle.std.specs.Prelude.{option_map, slice_get, length}
 use Rattle.std.specs.Option.{option_map_or}
 use Rattle.scalar_types.specs.declared.Order.{Order}
 use Rattle.frame_outside.specs.Shelf.{Outside, Told, reading_at}
@@ -64,11 +64,13 @@ abbrev pub IsLast : List ℕ → Order → List Item → Option Given → Type 0
 IsLast file order items None = items ≡ []
 IsLast file order items (Some given) = HasLast file order items given
 
--- the reader has given the items of the file up to its place, and has looked at what stands there
+-- the reader has given the items of the file up to its place, the end of the file only where nothing stands
+-- after it, and has looked at what stands there
 pub record HasRead (file : List ℕ) (r : Reader) : Type 0 where
   pub items : List Item
   pub begins : Begins file r.order items r.before
   pub last : IsLast file r.order items r.last
+  pub end : r.before.closed ≡ true → r.before.place ≡ length file
   pub looked : IsLooked r.order file r.before.place r.position.at r.looked
 
 -- The reader reads its slot of this shelf: it stands in it, and, while there was no error, what the reader has given

@@ -5,6 +5,7 @@ mod cursor;
 mod entries;
 mod frame;
 mod item;
+mod laws;
 mod looked;
 mod opening;
 mod reader;
@@ -16,4 +17,5 @@ mod structure;
 
 pub use file_grammar::{Fault, Reason};
 pub use item::{Item, ReadError};
+pub use laws::looks_bound_readers;
 pub use reader::ItemReader;

@@ -6,7 +6,7 @@ ghost use Rattle.frame_outside.specs.Shelf.{Told, reading_at};
 ghost use Rattle.structure_source.specs.Source.{Stands, GoesOn, drawn};
 ghost use Rattle.frame_head.specs.Header.{header_of};
 ghost use Rattle.file_grammar.specs.declared.fault.Fault.{Fault};
-ghost use Rattle.file_grammar.specs.Fault.{IsHeaderFault};
+ghost use Rattle.file_grammar.specs.Fault.{IsHeaderFault, fault_at};
 
 use crate::item::ReadError;
 use file_grammar::{Fault, Reason};
@@ -15,7 +15,8 @@ use frame_outside::Shelf;
 use scalar_types::Order;
 use structure_source::StructureSource;
 
-/// The byte order that the header tells, or the fault of the header. The source stands at the beginning of its file.
+/// The byte order that the header tells, or the fault of the header. The source stands at the beginning of
+/// its file.
 pub fn read_order<S: Shelf>(source: &mut StructureSource, shelf: &mut S) -> Result<Order, ReadError>
     requires stands { Stands (S.outside shelf.old) source.old }
     requires beginning { source.old.at ≡ 0 }
@@ -43,7 +44,9 @@ pub fn read_order<S: Shelf>(source: &mut StructureSource, shelf: &mut S) -> Resu
     }
 }
 
-fn header_fault(at: u64, reason: Reason) -> ReadError {
+fn header_fault(at: u64, reason: Reason) -> ReadError
+    ensures { result ≡ ReadError.Fault (fault_at reason (at, 0)) }
+{
     ReadError::Fault(Fault {
         at,
         field: 0,

@@ -1,7 +1,7 @@
 //! The reader of a file's items.
 
 ghost use Rattle.std.specs.Prelude.{◌≡◌, ◌≢◌, ◌+◌, ◌<◌, ◌≤◌, ℕ, [], false, true, None, Some, Ok, Err, IsSome};
-ghost use Rattle.std.specs.Prelude.{IfOk, OnOk, IfErr, OnErr};
+ghost use Rattle.std.specs.Prelude.{IfOk, OnOk, IfErr, OnErr, if◌then◌else◌};
 ghost use Rattle.std.specs.Option.{option_copied};
 ghost use Rattle.frame_outside.specs.Counts.{Rose};
 ghost use Rattle.frame_outside.specs.Shelf.{Told, IsSource, reading_at};
@@ -34,9 +34,9 @@ use structure_source::StructureSource;
 
 /// A reader of the items of one file, from one source slot of a shelf.
 ///
-/// It gives the items of the grammar one after another (LIGO-T970130, version 8: the structures in the order of the
-/// file), up to the end of the file, or else the file's first fault. It holds the dictionary and one frame, and reads
-/// at most 65,536 bytes ahead.
+/// It gives the items of the grammar one after another (LIGO-T970130, version 8: the structures in the order
+/// of the file), up to the end of the file, or else the file's first fault. It holds the dictionary and one
+/// frame, and reads at most 65,536 bytes ahead.
 #[derive(Drop)]
 pub struct ItemReader {
     cursor: Cursor,
@@ -68,13 +68,13 @@ impl Model for ItemReader {
 }
 
 impl ItemReader {
-    /// A reader at the place after the header of the file that a source slot was opened on. Nothing of the slot was
-    /// taken yet. At most 65,576 bytes are drawn.
+    /// A reader at the place after the header of the file that a source slot was opened on. Nothing of the
+    /// slot was taken yet. At most 65,576 bytes are drawn.
     ///
     /// # Errors
     ///
-    /// A `Fault` is that of the header: CutHeader, or BadHeader at its first wrong part. `Device` comes where the
-    /// shelf could not do a call.
+    /// A `Fault` is that of the header: CutHeader, or BadHeader at its first wrong part. `Device` comes where
+    /// the shelf could not do a call.
     pub fn begin<S: Shelf>(alloc: Global, shelf: &mut S, slot: u32) -> Result<ItemReader, ReadError>
         requires source { IsSource (S.outside shelf.old).slots slot }
         requires beginning { Told (reading_at (S.outside shelf.old).slots slot) (λ reading. reading.at ≡ 0) }
@@ -107,13 +107,13 @@ impl ItemReader {
         })
     }
 
-    /// The next item, or the file's first fault, which stands at the place reached (Trailing: at the end of the
-    /// FrEndOfFile that may stand there). The end of the file is given only after no byte was found after it, and
-    /// again by every later call. After an error every later call gives the same error, and nothing is said of the
-    /// other calls.
+    /// The next item, or the file's first fault, which stands at the place reached (Trailing: at the end of
+    /// the FrEndOfFile that may stand there). The end of the file is given only after no byte was found after
+    /// it, and again by every later call. After an error every later call gives the same error, and nothing
+    /// is said of the other calls.
     ///
-    /// The shelf and its slot are those of `begin`. What is drawn of the slot reaches no further than the look of the
-    /// place reached; after an error, of the place before it or of that after the entry there.
+    /// The shelf and its slot are those of `begin`. What is drawn of the slot reaches no further than the
+    /// look of the place reached; after an error, of the place before it or of that after the entry there.
     pub fn next<S: Shelf>(&mut self, shelf: &mut S) -> Result<Item, ReadError>
         requires reads { Reads (S.outside shelf.old) self.old }
         ensures reads { Reads (S.outside shelf.new) self.new }
@@ -134,7 +134,8 @@ impl ItemReader {
             Faults (record { order = self.old.order; file = file; before = self.old.before }) fault) }
         ensures device { result ≡ Err ReadError.Device → self.old.error ≡ None
             → Rose (S.outside shelf.old).faults (S.outside shelf.new).faults }
-        ensures draws { GoesOn (S.outside shelf.old) (S.outside shelf.new) self.old.position self.new.position }
+        ensures draws { GoesOn (S.outside shelf.old) (S.outside shelf.new) self.old.position
+            self.new.position }
         ensures ahead { OnErr result (self.old.error ≡ None
             → Told (file_of (S.outside shelf.old) self.old.position.slot) (λ file.
             IsWithinLook self.old.order file self.old.before.place (drawn self.new.position))) }
@@ -169,12 +170,19 @@ impl ItemReader {
     }
 
     /// The end of the file, once it was given.
-    fn end_given(&self) -> Option<Item> {
-        if self.cursor.state.closed { self.last } else { None }
+    fn end_given(&self) -> Option<Item>
+        ensures { result ≡ (if self.now.before.closed then self.now.last else None) }
+    {
+        if self.cursor.state.closed {
+            self.last
+        } else {
+            None
+        }
     }
 
-    /// Hands out the frame that has ended, with its end record, and keeps `empty` for the next one. Until the next
-    /// call of `next`, `segment` gives the empty one, `numbering` gives None and `body` is empty. Takes no memory.
+    /// Hands out the frame that has ended, with its end record, and keeps `empty` for the next one. Until the
+    /// next call of `next`, `segment` gives the empty one, `numbering` gives None and `body` is empty. Takes
+    /// no memory.
     pub fn lift(&mut self, empty: Segment) -> Segment
         requires error { self.old.error ≡ None }
         requires last { (item : Item) → self.old.last ≡ Some item → IsFrameEnd item }
@@ -230,23 +238,24 @@ impl ItemReader {
         self.cursor.state.records
     }
 
-    /// The frame: after its end record the whole of it, until the next call of `next`; else as far as it is read.
+    /// The frame: after its end record the whole of it, until the next call of `next`; else as far as it is
+    /// read.
     pub fn segment(&self) -> &Segment
         ensures { result.now ≡ self.now.segment }
     {
         &self.cursor.state.segment
     }
 
-    /// The breadth-first order of the frame that the last item has ended. None after any other item, and once the
-    /// frame was lifted.
+    /// The breadth-first order of the frame that the last item has ended. None after any other item, and once
+    /// the frame was lifted.
     pub fn numbering(&self) -> Option<&Numbering>
-        ensures { option_now result ≡ self.now.numbering }
+        ensures { option_copied result ≡ self.now.numbering }
     {
         self.cursor.state.numbering.as_ref()
     }
 
-    /// The body of the last structure. Empty before the first item, after an entry, after a contents table whose
-    /// layout is not readable, and after the frame was lifted.
+    /// The body of the last structure. Empty before the first item, after an entry, after a contents table
+    /// whose layout is not readable, and after the frame was lifted.
     pub fn body(&self) -> &[u8]
         ensures { result.now ≡ self.now.body }
     {

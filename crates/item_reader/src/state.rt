@@ -2,6 +2,7 @@
 
 ghost use Rattle.std.specs.Prelude.{◌≡◌, [], IfOk, None};
 ghost use Rattle.layout_plan.specs.BuiltIn.{structure_fields, element_fields};
+ghost use Rattle.link_graph.specs.Collected.{nothing_in};
 ghost use Rattle.file_grammar.specs.Item.{nothing_yet};
 ghost use Rattle.item_reader.specs.State.{IsSound, before_of};
 
@@ -51,7 +52,7 @@ impl State {
         ensures sound { IfOk result IsSound }
         ensures order { IfOk result (λ state. state.segment.order ≡ order) }
         ensures before { IfOk result (λ state. before_of state ≡ nothing_yet) }
-        ensures open { IfOk result (λ state. (state.numbering ≡ None) × (state.segment.pending ≡ [])) }
+        ensures open { IfOk result (λ state. (state.numbering ≡ None) × (state.segment ≡ nothing_in order)) }
     {
         Ok(State {
             at: frame_head::HEADER_SIZE as u64,
