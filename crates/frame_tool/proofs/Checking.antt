@@ -1,5 +1,5 @@
 -- How a check goes on through a file, and what it finds.
-use Rattle.std.proofs.Common.{◌≡◌, ℕ, ◌+◌, List, [], ◌∷◌, ◌++◌, Option, Some, None, refl, ap, ◌∙◌}
+use Rattle.std.proofs.Common.{◌≡◌, ℕ, ◌+◌, Bool, true, false, List, [], ◌∷◌, ◌++◌, Option, Some, None, refl, ap, ◌∙◌}
 use Rattle.std.specs.Option.{option_map}
 use Rattle.frame_outside.specs.Shelf.{Outside, Reading, Source, Files, Opens, reading_at, passed, beginning}
 use Rattle.frame_outside.specs.Shelf.{beginning_of}
@@ -53,6 +53,11 @@ goes_on (given.Plain at class instance node) other end = absurd end
 goes_on (given.FrameEnd at class) other end = absurd end
 goes_on (given.Table at class length) other end = absurd end
 goes_on (given.FileEnd at class length seek) other end = other at class length seek refl
+
+-- after such an item the end of the file does not stand
+pub unclosed : (item : Item) (closed : Bool) → (closed ≡ true → IsFileEnd item) → (IsFileEnd item → ⊥) → closed ≡ false
+unclosed item true ends none = absurd (none (ends refl))
+unclosed item false ends none = refl
 
 -- what was found of a file whose end was given
 pub accepted : (file : List ℕ) (reader : Reader) → HasEnded file reader
