@@ -1,5 +1,5 @@
-//! Runs of `check` over structures after an entry that are longer than one piece of reading, or that tell more than is
-//! there; and how far the shelf is read while an item is given.
+//! Runs of `check` over structures after an entry that are longer than one piece of reading, or that tell more
+//! than is there; and how far the shelf is read while an item is given.
 
 use crate::check::check_file;
 use crate::judgement::Finding;

@@ -1,6 +1,5 @@
 -- Each step by the lemma of its name on a check on its way.
 use Rattle.std.proofs.Common.{◌≡◌, Some, Err, sym, subst, ◌∙◌, rules}
-use Rattle.frame_outside.specs.SlotReader.{Draws}
 use Rattle.item_reader.specs.declared.item.ReadError.TheVariants as error
 use Rattle.item_reader.specs.Reader.{IsFileEnd, file_of}
 use Rattle.frame_tool.proofs.Checking.{draws_more, file_of-drawn, goes_on, unclosed, accepted}
@@ -15,7 +14,7 @@ returns-in_err-next-clause-fault g c = λ fault is file told.
 
 pub returns-in_err-next-clause-draws : goal.returns-in_err-next-clause-draws
 returns-in_err-next-clause-draws g c =
-    draws_more _ _ _ _ c.items.invariant.draws (subst (Draws _ _) c.items.invariant.slot c.next.ensures.draws.draws)
+    draws_more _ _ _ _ _ c.items.invariant.draws c.items.invariant.slot c.next.ensures.draws.draws
 
 pub returns-in-FileEnd-clause-finding : goal.returns-in-FileEnd-clause-finding
 returns-in-FileEnd-clause-finding g c = λ file told.
@@ -27,12 +26,12 @@ returns-in-FileEnd-clause-finding g c = λ file told.
 
 pub returns-in-FileEnd-clause-draws : goal.returns-in-FileEnd-clause-draws
 returns-in-FileEnd-clause-draws g c =
-    draws_more _ _ _ _ c.items.invariant.draws (subst (Draws _ _) c.items.invariant.slot c.next.ensures.draws.draws)
+    draws_more _ _ _ _ _ c.items.invariant.draws c.items.invariant.slot c.next.ensures.draws.draws
 
 pub items-preserved : goal.items-preserved
 items-preserved g c = record {
   reads = c.next.ensures.reads;
-  draws = draws_more _ _ _ _ c.items.invariant.draws (subst (Draws _ _) c.items.invariant.slot c.next.ensures.draws.draws);
+  draws = draws_more _ _ _ _ _ c.items.invariant.draws c.items.invariant.slot c.next.ensures.draws.draws;
   slot = c.next.ensures.draws.slot ∙ c.items.invariant.slot;
   unclosed = unclosed _ _ c.in_ok-next.ensures.closed.1 (goes_on _ c.in_default.not-FileEnd);
   error = search rules;
