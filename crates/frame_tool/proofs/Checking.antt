@@ -1,29 +1,31 @@
 -- How a check goes on through a file, and what it finds.
-use Rattle.std.proofs.Common.{◌≡◌, ℕ, ◌+◌, List, [], ◌∷◌, ◌++◌, Option, Some, None, refl, ap, ◌∙◌}
+use Rattle.std.proofs.Common.{◌≡◌, ℕ, ◌+◌, Bool, true, false, List, [], ◌∷◌, ◌++◌, Option, Some, None}
+use Rattle.std.proofs.Common.{refl, ap, subst, ◌∙◌}
 use Rattle.std.specs.Option.{option_map}
-use Rattle.frame_outside.specs.Shelf.{Outside, Reading, Source, Files, Opens, reading_at, passed, beginning}
-use Rattle.frame_outside.specs.Shelf.{beginning_of}
+use Rattle.frame_outside.specs.Shelf.{Outside, Reading, Source, Files, Opens, Passes, reading_at, passed}
+use Rattle.frame_outside.specs.Shelf.{beginning, beginning_of}
 use Rattle.frame_outside.specs.SlotReader.{Draws}
 use Rattle.frame_outside.proofs.Slots.{reading_at-pass, reading_at-given}
-use Rattle.frame_outside.proofs.Reading.{passes_none, passes_more}
+use Rattle.frame_outside.proofs.Reading.{passes_more}
 use Rattle.item_reader.specs.declared.item.Item.{Item}
 use Rattle.item_reader.specs.declared.item.Item.TheVariants as given
 use Rattle.item_reader.specs.Reader.{Reader, HasEnded, IsFileEnd, file_of}
 use Rattle.frame_tool.specs.declared.judgement.Finding.TheVariants.{Accepted}
 use Rattle.frame_tool.specs.Check.{IsFinding}
 
--- nothing is drawn
-pub draws_none : (outside : Outside) (slot : ℕ) → Draws outside outside slot
-draws_none outside slot = record { drawn = 0; passes = passes_none outside slot }
-
--- two draws are one
-pub draws_more : (first middle last : Outside) (slot : ℕ) → Draws first middle slot → Draws middle last slot
-    → Draws first last slot
-draws_more first middle last slot p q =
-    record { drawn = p.drawn + q.drawn; passes = passes_more first middle last slot p.drawn q.drawn p.passes q.passes }
+-- two draws of one slot are one
+pub draws_more : (first middle last : Outside) (slot same : ℕ) → Draws first middle slot → same ≡ slot
+    → Draws middle last same → Draws first last slot
+draws_more first middle last slot same p is q =
+    let passes : Passes middle last slot q.drawn = subst (λ (n : ℕ). Passes middle last n q.drawn) is q.passes in
+    record {
+      drawn = p.drawn + q.drawn;
+      passes = passes_more first middle last slot p.drawn q.drawn p.passes passes;
+    }
 
 opened-passed : (n : ℕ) (told : Option Reading)
-    → option_map (λ reading. reading.opened) (option_map (passed n) told) ≡ option_map (λ reading. reading.opened) told
+    → option_map (λ reading. reading.opened) (option_map (passed n) told)
+    ≡ option_map (λ reading. reading.opened) told
 opened-passed n None = refl
 opened-passed n (Some reading) = refl
 
@@ -36,7 +38,8 @@ file_of-drawn old new slot draws =
 
 -- a slot that was opened is that of the file of the name
 pub file_of-opened : (old new : Outside) (name : List ℕ) (slot : ℕ) → Opens old new name slot
-    → (files : Files) (file : List ℕ) → old.files ≡ Some files → files name ≡ Some file → file_of new slot ≡ Some file
+    → (files : Files) (file : List ℕ) → old.files ≡ Some files → files name ≡ Some file
+    → file_of new slot ≡ Some file
 file_of-opened old new name slot opens files file told held =
     let opened : Option Reading → Option (List ℕ) = λ told. option_map (λ reading. reading.opened) told in
     ap (λ slots. opened (reading_at slots slot)) opens.slots
@@ -53,6 +56,12 @@ goes_on (given.Plain at class instance node) other end = absurd end
 goes_on (given.FrameEnd at class) other end = absurd end
 goes_on (given.Table at class length) other end = absurd end
 goes_on (given.FileEnd at class length seek) other end = other at class length seek refl
+
+-- after such an item the end of the file does not stand
+pub unclosed : (item : Item) (closed : Bool) → (closed ≡ true → IsFileEnd item) → (IsFileEnd item → ⊥)
+    → closed ≡ false
+unclosed item true ends none = absurd (none (ends refl))
+unclosed item false ends none = refl
 
 -- what was found of a file whose end was given
 pub accepted : (file : List ℕ) (reader : Reader) → HasEnded file reader

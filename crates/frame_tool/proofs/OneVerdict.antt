@@ -9,6 +9,7 @@ use Rattle.frame_head.specs.Header.{header_of}
 use Rattle.frame_head.specs.Structure.{common_of}
 use Rattle.file_grammar.specs.declared.reason.Reason.{Reason}
 use Rattle.file_grammar.specs.declared.reason.Reason.TheVariants.{CutHeader, BadHeader}
+use Rattle.file_grammar.proofs.Headers.{same_order}
 use Rattle.frame_tool.specs.declared.verdict.Verdict.{Verdict}
 use Rattle.frame_tool.specs.declared.verdict.Verdict.TheVariants.{Sound, Wrong}
 use Rattle.frame_tool.specs.Walk.{StandFrom, IsFault, IsWalked, IsHeaderFault, IsStructureFault, IsSound, IsVerdict}
@@ -26,10 +27,6 @@ record IsWalk (file : List ℕ) (order : Order) (structures : List (List ℕ)) (
 apart : (header : Result Order HeadFault) (order : Order) (fault : HeadFault) → header ≡ Ok order
     → header ≡ Err fault → ⊥
 apart header order fault read refused = cc
-
-same_order : (header : Result Order HeadFault) (first second : Order) → header ≡ Ok first → header ≡ Ok second
-    → first ≡ second
-same_order header first second left right = cc
 
 same_head_fault : (header : Result Order HeadFault) (first second : HeadFault) → header ≡ Err first
     → header ≡ Err second

@@ -19,6 +19,8 @@ mod tests;
 mod tests_of_check;
 #[cfg(test)]
 mod tests_of_frames;
+#[cfg(test)]
+mod tests_of_reader;
 mod verdict;
 mod walk;
 #[cfg(test)]

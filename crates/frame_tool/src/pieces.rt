@@ -26,7 +26,7 @@ const END: &[u8] = b"\0\0\0\0\0\0\0\0D\x01\0\0\0\0\0\0\0\0\0\0";
 pub type Row = (&'static str, &'static [Piece], &'static str);
 
 /// The pieces one after another.
-fn joined(alloc: Global, pieces: &[Piece]) -> Result<Vec<u8>, AllocError> {
+pub fn joined(alloc: Global, pieces: &[Piece]) -> Result<Vec<u8>, AllocError> {
     let mut file = Vec::new(alloc);
     for piece in pieces {
         let (count, bytes, end): (usize, &[u8], &[u8]) = match *piece {

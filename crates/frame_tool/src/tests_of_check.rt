@@ -215,7 +215,7 @@ fn judges_layouts_and_bodies(rt: HostRuntime) -> Result<(), Fail> {
 
 #[test]
 fn judges_entries(rt: HostRuntime) -> Result<(), Fail> {
-    let rows: [Row; 7] = [
+    let rows: [Row; 8] = [
         (
             "an entry stands twice",
             &[Full(0, 839), Full(640, 809), Rest(839)],
@@ -251,6 +251,19 @@ fn judges_entries(rt: HostRuntime) -> Result<(), Fail> {
                 Rest(839),
             ],
             "fault: file 0 at 839 field 0: 13 ClassRange\n",
+        ),
+        (
+            "an entry of 4096 elements",
+            &[
+                Full(0, 839),
+                Bytes(b"\x1b\0\0\0\0\0\0\0\0\x01\0\0\0\0\x02\0X\0M\0\x01\0\0\0\0\0\0"),
+                Times(
+                    4096,
+                    b"\x1f\0\0\0\0\0\0\0\0\x02\0\0\0\0\x01\0\0\x05\0CHAR\0\x01\0\0\0\0\0\0",
+                ),
+                Rest(839),
+            ],
+            "accepted\norder: little\nframes: 1\nrecords: 10\nbytes: 130640\n",
         ),
         (
             "an entry of 4097 elements",

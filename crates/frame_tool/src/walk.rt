@@ -8,9 +8,9 @@ ghost use Rattle.frame_tool.specs.Walk.{IsVerdict, file_limit};
 ghost use Rattle.frame_tool.specs.WalkSteps.{IsFound, Moves, Judges, body_size_of, FindsOn, ReadsOneFile};
 
 use crate::verdict::Verdict;
+use file_grammar::{FILE_LIMIT, RECORD_LIMIT, Reason};
 use frame_head::{HEAD_SIZE, HEADER_SIZE, read_common, read_header};
 use frame_outside::{Failed, Shelf, ShelfError, SlotReader};
-use file_grammar::{FILE_LIMIT, RECORD_LIMIT, Reason};
 use scalar_types::Order;
 use std::alloc::Global;
 

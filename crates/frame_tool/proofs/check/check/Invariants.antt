@@ -1,5 +1,5 @@
 -- The reader is on its way through the file.
-use Rattle.std.proofs.Common.{◌≡◌, ◌-◌, None}
+use Rattle.std.proofs.Common.{◌≡◌, ◌-◌, false, None}
 use Rattle.frame_outside.specs.SlotReader.{Draws}
 use Rattle.file_grammar.specs.Structure.{file_limit}
 use Rattle.item_reader.specs.Reader.{Reads}
@@ -9,8 +9,8 @@ abbrev pub invariant-items : goal.invariant-items
 invariant-items g l = record {
   reads : Reads (g.S.Shelf.outside l.shelf) l.reader;
   draws : Draws (g.S.Shelf.outside l.fn.shelf) (g.S.Shelf.outside l.shelf) l.fn.slot;
-  slot : l.reader.slot ≡ l.fn.slot;
-  last : l.reader.last ≡ None;
+  slot : l.reader.position.slot ≡ l.fn.slot;
+  unclosed : l.reader.before.closed ≡ false;
   error : l.reader.error ≡ None;
 }
 

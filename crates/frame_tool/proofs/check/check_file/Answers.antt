@@ -5,16 +5,20 @@ use Rattle.frame_tool.proofs.Checking.{file_of-opened}
 use Rattle.frame_tool.proofs.check.check_file.Goals as goal
 
 pub returns-in-Ok-clause-shelf : goal.returns-in-Ok-clause-shelf
-returns-in-Ok-clause-shelf g c = reads_one _ _ _ _ _ _ c.in_ok-slot.ensures.ok refl c.check.ensures.draws
+returns-in-Ok-clause-shelf g c =
+    reads_one _ _ _ _ _ _ c.in_ok-slot.ensures.ok refl c.check.ensures.draws
 
 pub returns-in-Err-Fault-clause-shelf : goal.returns-in-Err-Fault-clause-shelf
-returns-in-Err-Fault-clause-shelf g c = reads_one _ _ _ _ _ _ c.in_ok-slot.ensures.ok refl c.check.ensures.draws
+returns-in-Err-Fault-clause-shelf g c =
+    reads_one _ _ _ _ _ _ c.in_ok-slot.ensures.ok refl c.check.ensures.draws
 
 pub returns-in-Err-Device-clause-shelf : goal.returns-in-Err-Device-clause-shelf
-returns-in-Err-Device-clause-shelf g c = reads_one _ _ _ _ _ _ c.in_ok-slot.ensures.ok refl c.check.ensures.draws
+returns-in-Err-Device-clause-shelf g c =
+    reads_one _ _ _ _ _ _ c.in_ok-slot.ensures.ok refl c.check.ensures.draws
 
 pub returns-in-Err-NoMemory-clause-shelf : goal.returns-in-Err-NoMemory-clause-shelf
-returns-in-Err-NoMemory-clause-shelf g c = reads_one _ _ _ _ _ _ c.in_ok-slot.ensures.ok refl c.check.ensures.draws
+returns-in-Err-NoMemory-clause-shelf g c =
+    reads_one _ _ _ _ _ _ c.in_ok-slot.ensures.ok refl c.check.ensures.draws
 
 pub returns-in-Err-Fault-clause-finding : goal.returns-in-Err-Fault-clause-finding
 returns-in-Err-Fault-clause-finding g c = λ files told file held.

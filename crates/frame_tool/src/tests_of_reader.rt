@@ -1,0 +1,150 @@
+//! Runs of `check` over structures after an entry that are longer than one piece of reading, or that tell more
+//! than is there; and how far the shelf is read while an item is given.
+
+use crate::check::check_file;
+use crate::judgement::Finding;
+use crate::pieces::Piece::{Bytes, Full, Times};
+use crate::pieces::{Piece, Row, check_rows, joined};
+use file_grammar::{Fault, Reason};
+use frame_outside::{MemShelf, Shelf};
+use item_reader::{Item, ItemReader, ReadError};
+use std::alloc::Global;
+use std::test::Fail;
+
+/// The first 14 bytes of an FrSE of 70,014 bytes.
+const LONG_ELEMENT: &[u8] = b"\x7e\x11\x01\0\0\0\0\0\0\x02\x0b\0\0\0";
+
+#[test]
+fn judges_long_elements(rt: HostRuntime) -> Result<(), Fail> {
+    let rows: [Row; 6] = [
+        (
+            "a text without a zero at its end",
+            &[
+                Full(0, 569),
+                Bytes(LONG_ELEMENT),
+                Bytes(b"\xff\xff"),
+                Times(69998, b"a"),
+            ],
+            "fault: file 0 at 569 field 0: 11 BadText\n",
+        ),
+        (
+            "the text after one of 65535 bytes has not as many",
+            &[
+                Full(0, 569),
+                Bytes(LONG_ELEMENT),
+                Bytes(b"\xff\xff"),
+                Times(65534, b"a"),
+                Bytes(b"\0\xff\xff"),
+                Times(4461, b"a"),
+            ],
+            "fault: file 0 at 569 field 1: 9 BodyShort\n",
+        ),
+        (
+            "69984 bytes after the fields",
+            &[
+                Full(0, 569),
+                Bytes(LONG_ELEMENT),
+                Bytes(b"\x02\0x\0\x07\0INT_4U\0\x01\0\0"),
+                Times(69984, b"a"),
+            ],
+            "fault: file 0 at 569 field 3: 10 BodyLong\n",
+        ),
+        (
+            "a text without a zero at its end, and one byte too few: 3 before 11",
+            &[
+                Full(0, 569),
+                Bytes(LONG_ELEMENT),
+                Bytes(b"\xff\xff"),
+                Times(69997, b"a"),
+            ],
+            "fault: file 0 at 569 field 0: 3 CutRecord\n",
+        ),
+        (
+            "an FrSE tells 4294967295 bytes",
+            &[
+                Full(0, 569),
+                Bytes(b"\xff\xff\xff\xff\0\0\0\0\0\x02\x0b\0\0\0"),
+                Bytes(b"\x02\0x\0\x07\0INT_4U\0\x01\0\0\0\0\0\0"),
+            ],
+            "fault: file 0 at 569 field 0: 3 CutRecord\n",
+        ),
+        (
+            "texts of 65535, 5 and 4450 bytes, and the file ends",
+            &[
+                Full(0, 569),
+                Bytes(LONG_ELEMENT),
+                Bytes(b"\xff\xff"),
+                Times(65534, b"a"),
+                Bytes(b"\0\x05\0CHAR\0\x62\x11"),
+                Times(4449, b"a"),
+                Bytes(b"\0\0\0\0\0"),
+            ],
+            "fault: file 0 at 70583 field 0: 24 NoEnd\n",
+        ),
+    ];
+    check_rows(&rt, rt.alloc(), rows.as_slice())?;
+    Ok(())
+}
+
+/// The first item of the file `f`.
+fn first_item<S: Shelf>(alloc: Global, shelf: &mut S) -> Result<Item, ReadError> {
+    let slot = shelf.source(alloc, "f")?;
+    let mut reader = ItemReader::begin(alloc, shelf, slot)?;
+    reader.next(shelf)
+}
+
+#[test]
+fn reads_no_further_than_the_look(rt: HostRuntime) -> Result<(), Fail> {
+    let alloc = rt.alloc();
+    // the bytes at 569, after the first entry; the most bytes that may be taken; and the fault there
+    let rows: [(&'static [Piece], u64, u32, Reason); 3] = [
+        (
+            &[Bytes(b"\x0d\0\0\0\0\0\0\0"), Full(577, 3637)],
+            66119,
+            0,
+            Reason::LengthSmall,
+        ),
+        (
+            &[Bytes(&[255; 8]), Full(577, 3637)],
+            66119,
+            0,
+            Reason::RecordLimit,
+        ),
+        (
+            &[
+                Bytes(LONG_ELEMENT),
+                Bytes(b"\x02\0x\0\x07\0INT_4U\0\x01\0\0"),
+                Times(69984, b"a"),
+            ],
+            136119,
+            3,
+            Reason::BodyLong,
+        ),
+    ];
+    for (pieces, look, field, reason) in rows {
+        let mut file = joined(alloc, &[Full(0, 569)])?;
+        file.extend_from_slice(joined(alloc, pieces)?.as_slice())?;
+        file.resize(300000, 0)?;
+        let mut shelf = MemShelf::new(alloc);
+        shelf.with_file("f", file.as_slice())?;
+        let entry = Item::Entry {
+            at: 40,
+            class: 3,
+            changed: true,
+        };
+        assert_eq!(rt; first_item(alloc, &mut shelf)?, entry, "{reason:?}");
+        let taken = shelf.taken();
+        assert!(rt; taken <= look, "{reason:?}");
+        let fault = Fault {
+            at: 569,
+            field,
+            reason,
+        };
+        assert_eq!(rt;
+            check_file(alloc, &mut shelf, "f")?,
+            Finding::Refused(fault)
+        );
+        assert!(rt; shelf.taken().saturating_sub(taken) <= look, "{reason:?}");
+    }
+    Ok(())
+}
