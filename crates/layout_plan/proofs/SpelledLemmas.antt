@@ -517,6 +517,14 @@ field_in-listed order numbers form (c ∷ cs) bytes count some is =
     sym (listed_in-capped order form (item_count numbers (c ∷ cs)) bytes)
     ∙ ap (λ n. listed_in order form n bytes) (sym is)
 
+-- the same by a count that no more than the bytes tell apart
+pub field_in-alike : (order : Order) (numbers : List ℕ) (form : Form) (counts : List Count) (bytes : List ℕ)
+    (count : ℕ) → (counts ≡ [] → ⊥) → min count (length bytes + 1) ≡ min (item_count numbers counts) (length bytes + 1)
+    → field_in order numbers form counts bytes ≡ listed_in order form count bytes
+field_in-alike order numbers form counts bytes count some same =
+    field_in-listed order numbers form counts bytes (min count (length bytes + 1)) some same
+    ∙ listed_in-capped order form count bytes
+
 -- a slice to the end
 pub TellsText-rest : (order : Order) (bytes : List ℕ) (at : ℕ) (r : Result ℕ BodyReason)
     → TellsText (text_in order (take (length bytes - at) (drop at bytes))) (take (length bytes - at) (drop at bytes)) r

@@ -1,15 +1,11 @@
 //! How far a varied field of a body reaches, and what `measure` counts of it. No memory is taken, whatever
 //! count a list claims.
-ghost use Rattle.std.specs.Prelude.{◌≡◌, ℕ, ◌≤◌, ◌<◌, ◌+◌, ◌*◌, true, List, min, length};
-ghost use Rattle.layout_plan.specs.declared.fields.Field.{Field};
+ghost use Rattle.std.specs.Prelude.{◌≡◌, ◌<◌, ◌*◌, min, length};
 ghost use Rattle.layout_plan.specs.declared.fields.Form.TheVariants.{Text};
 ghost use Rattle.layout_plan.specs.Body.{extent_of, item_count, signed_count};
-ghost use Rattle.layout_plan.specs.Marks.{is_varied};
-ghost use Rattle.layout_plan.specs.Steps.{items_of};
-ghost use Rattle.layout_plan.specs.Reading.{single_in, listed_in, field_in, text_in};
+ghost use Rattle.layout_plan.specs.Reading.{single_in, listed_in, text_in};
 ghost use Rattle.layout_plan.specs.Spelled.{Tells, TellsText, TellsLength, zero_texts_of};
 
-use crate::steps::Items;
 use crate::{BodyReason, Count};
 use scalar_types::{Order, Width, read_num};
 
@@ -20,27 +16,6 @@ pub struct Spelled {
     pub length: usize,
     /// The texts spelled by a length of 0 alone.
     pub zero_texts: u64,
-}
-
-/// A varied field at the front of the bytes. One with dimensions has so many items; a count above the number
-/// of bytes may stand for each greater one, since each item takes a byte or more.
-pub fn varied_at(
-    order: Order,
-    items: Items,
-    count: usize,
-    bytes: &[u8],
-) -> Result<Spelled, BodyReason>
-    ensures { (f : Field) (numbers : List ℕ)
-        → is_varied f ≡ true
-        → items ≡ items_of f.form f.counts
-        → count ≡ min (item_count numbers f.counts) (length bytes.now + 1)
-        → Tells (field_in order numbers f.form f.counts bytes.now) f.form bytes.now result }
-{
-    match items {
-        Items::OneText => text_at(order, bytes),
-        Items::Texts => texts_at(order, count, bytes),
-        Items::Plain(size) => plain_at(count.saturating_mul(size as usize), bytes),
-    }
 }
 
 /// The items of a field: the product of its counts by the numbers of the fields before it, or the cap where
@@ -87,7 +62,7 @@ pub fn signed_count(width: Width, n: u64) -> u64
 }
 
 /// So many bytes.
-fn plain_at(length: usize, bytes: &[u8]) -> Result<Spelled, BodyReason>
+pub fn plain_at(length: usize, bytes: &[u8]) -> Result<Spelled, BodyReason>
     ensures { TellsLength length bytes.now result }
 {
     if bytes.len() < length {
@@ -100,7 +75,7 @@ fn plain_at(length: usize, bytes: &[u8]) -> Result<Spelled, BodyReason>
 }
 
 /// One text.
-fn text_at(order: Order, bytes: &[u8]) -> Result<Spelled, BodyReason>
+pub fn text_at(order: Order, bytes: &[u8]) -> Result<Spelled, BodyReason>
     ensures { Tells (single_in order Text bytes.now) Text bytes.now result }
 {
     let length = match text_length(order, bytes) {
@@ -114,7 +89,7 @@ fn text_at(order: Order, bytes: &[u8]) -> Result<Spelled, BodyReason>
 }
 
 /// So many texts.
-fn texts_at(order: Order, count: usize, bytes: &[u8]) -> Result<Spelled, BodyReason>
+pub fn texts_at(order: Order, count: usize, bytes: &[u8]) -> Result<Spelled, BodyReason>
     ensures { Tells (listed_in order Text count bytes.now) Text bytes.now result }
 {
     let mut at = 0;
