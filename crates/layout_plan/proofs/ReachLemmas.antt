@@ -1,5 +1,5 @@
 -- How far a walk over the varied fields has come.
-use Rattle.std.proofs.Common.{◌≡◌, ℕ, zero, suc, ◌+◌, ◌-◌, ◌<◌, ◌≤◌, min, inl, inr, true, is_none, List, [], ◌∷◌, ◌++◌}
+use Rattle.std.proofs.Common.{◌≡◌, ℕ, zero, suc, ◌+◌, ◌-◌, ◌<◌, ◌≤◌, inl, inr, true, is_none, List, [], ◌∷◌, ◌++◌}
 use Rattle.std.proofs.Common.{length, take, drop, get_or, set, map, Result, Ok, Err, Option, Some, None, refl, sym, ap}
 use Rattle.std.proofs.Common.{◌∙◌, subst, arith}
 use Rattle.std.specs.Prelude.{slice_get}
@@ -14,7 +14,7 @@ use Rattle.layout_plan.specs.declared.faults.BodyReason.{BodyReason}
 use Rattle.layout_plan.specs.declared.faults.BodyReason.TheVariants.{BodyShort}
 use Rattle.layout_plan.specs.declared.marks.Mark.{Mark}
 use Rattle.layout_plan.specs.declared.spelled.Spelled.{Spelled}
-use Rattle.layout_plan.specs.Body.{number_of, item_count, value_length, values_length}
+use Rattle.layout_plan.specs.Body.{number_of, value_length, values_length}
 use Rattle.layout_plan.specs.Reading.{field_in, fields_in}
 use Rattle.layout_plan.specs.Marks.{is_varied, past, mark_of, end_of, place_of}
 use Rattle.layout_plan.specs.Spelled.{Tells}

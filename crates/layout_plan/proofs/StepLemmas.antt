@@ -1,10 +1,10 @@
 -- The steps of a walk, and what their counters count.
-use Rattle.std.proofs.Common.{◌≡◌, ℕ, zero, suc, ◌+◌, ◌-◌, ◌*◌, ◌^◌, ◌<◌, ◌≤◌, min, Bool, true, false, cond, is_none}
-use Rattle.std.proofs.Common.{List, [], ◌∷◌, ◌++◌, length, take, drop, get_or, map, count_by, All, Option, Some, None}
+use Rattle.std.proofs.Common.{◌≡◌, ℕ, ◌+◌, ◌-◌, ◌*◌, ◌^◌, ◌<◌, ◌≤◌, min, true, false, is_none}
+use Rattle.std.proofs.Common.{List, [], ◌∷◌, ◌++◌, length, take, drop, get_or, map, All, Option, Some, None}
 use Rattle.std.proofs.Common.{Result, refl, sym, ap, ◌∙◌, subst, arith, append_assoc}
 use Rattle.std.specs.Prelude.{slice_get, option_and_then}
 use Rattle.std.specs.Option.{option_map_or}
-use Rattle.std.proofs.lemmas.List.{length-map, length-take-le, get_or-take, get_or-map, at_drop_more, length-drop}
+use Rattle.std.proofs.lemmas.List.{length-map, length-take-le, get_or-take, get_or-map, at_drop_more}
 use Rattle.std.proofs.lemmas.List.Elements.{All-cons, All-tail}
 use Rattle.std.proofs.Math.Nat.{mul_assoc, mul_comm}
 use Rattle.scalar_types.specs.declared.Order.{Order}
@@ -16,18 +16,16 @@ use Rattle.layout_plan.specs.declared.fields.Count.{Count}
 use Rattle.layout_plan.specs.declared.fields.Count.TheVariants.{Fixed, Of, OfSigned}
 use Rattle.layout_plan.specs.declared.fields.Field.{Field}
 use Rattle.layout_plan.specs.declared.faults.BodyReason.{BodyReason}
-use Rattle.layout_plan.specs.declared.marks.Mark.{Mark}
 use Rattle.layout_plan.specs.declared.spelled.Spelled.{Spelled}
-use Rattle.layout_plan.specs.declared.steps.Items.{Items}
 use Rattle.layout_plan.specs.declared.steps.Items.TheVariants.{OneText, Texts, Plain}
 use Rattle.layout_plan.specs.declared.steps.Step.{Step}
 use Rattle.layout_plan.specs.Layout.{IsEarlier, AreSound}
-use Rattle.layout_plan.specs.Body.{item_count, extent_of}
+use Rattle.layout_plan.specs.Body.{item_count}
 use Rattle.layout_plan.specs.Reading.{single_in, listed_in, field_in}
 use Rattle.layout_plan.specs.Marks.{product_by, numeral_of, fixed_width, is_varied, numbers_where, mark_of}
 use Rattle.layout_plan.specs.Marks.{place_of}
 use Rattle.layout_plan.specs.Spelled.{Tells, TellsLength}
-use Rattle.layout_plan.specs.Steps.{single_width, items_of, unit_of, counter_of, counters_by, counters_of, width_at}
+use Rattle.layout_plan.specs.Steps.{single_width, items_of, unit_of, counter_of, counters_of, width_at}
 use Rattle.layout_plan.specs.Steps.{step_of, no_step, step_at, steps_of, number_by, counted, counter_value, step_count}
 use Rattle.layout_plan.specs.Steps.{IsStep, HasRoom, IsThere, AreThere, IsAmount}
 use Rattle.layout_plan.specs.Walking.{number_at, AreNumbers, ArePlaces}
@@ -36,7 +34,7 @@ use Rattle.layout_plan.proofs.SpelledLemmas.{listed_pairs-Tells, listed_links-Te
 use Rattle.layout_plan.proofs.CounterLemmas.{AreSound-at, counter-is, counter-room}
 use Rattle.layout_plan.proofs.ReadingLemmas.{element-within}
 use Rattle.layout_plan.proofs.ReachLemmas.{ArePlaces-at}
-use Rattle.std.proofs.lemmas.Option.{slice_get_read, same_Some}
+use Rattle.std.proofs.lemmas.Option.{slice_get_read}
 use Rattle.layout_plan.proofs.MarkLemmas.{field-from, numbers_where-varied, IsNumbered, numbers_where-at}
 use Rattle.layout_plan.proofs.MarkLemmas.{length-numbers_where, mark_of-all, mark_of-later, IsLater-varied}
 

@@ -1,7 +1,8 @@
 -- Of the inside. The steps of a walk over the varied fields, made of the fields once.
-use Rattle.std.specs.Prelude.{◌≡◌, ◌≤◌, ℕ, true, All, ◌+◌, ◌-◌, ◌*◌, ◌^◌, min, List, [], ◌∷◌, ◌++◌, length, map, take}
+use Rattle.std.specs.Prelude.{◌≡◌, ◌≤◌, ℕ, Bool, true, false, if◌then◌else◌, All, ◌-◌, ◌*◌, ◌^◌, min, List, [], ◌∷◌, ◌++◌, length, map, take}
 use Rattle.std.specs.Prelude.{drop, slice_get, Option, Some, None, option_and_then}
 use Rattle.std.specs.Option.{option_map_or}
+use Rattle.std.specs.List.{list_all}
 use Rattle.scalar_types.specs.declared.Order.{Order}
 use Rattle.scalar_types.specs.declared.Width.{Width}
 use Rattle.scalar_types.specs.Number.{number, size_of}
@@ -101,12 +102,22 @@ step_count order body ends s = s.factor * product_by (counter_value order body e
 abbrev pub IsAmount : ℕ → List ℕ → Field → Type 0
 IsAmount n numbers f = min n (2 ^ 64 - 1) ≡ min (item_count numbers f.counts * unit_of f.form) (2 ^ 64 - 1)
 
+-- a field that is no list of links
+abbrev pub has_no_counts : List Count → Bool
+has_no_counts [] = true
+has_no_counts (c ∷ cs) = false
+
+abbrev pub is_plain : Field → Bool
+is_plain f = if is_link f then has_no_counts f.counts else true
+
 -- what a plan keeps of its fields
-pub record ArePlanned (fields : List Field) (steps : List Step) (marks : List Mark) (links : List ℕ) : Type 0 where
+pub record ArePlanned (fields : List Field) (steps : List Step) (marks : List Mark) (links : List ℕ)
+    (plain : Bool) : Type 0 where
   pub layout : IsLayout fields
   pub steps_are : steps ≡ steps_of fields
   pub marks_are : marks ≡ marks_from first_mark fields
   pub links_are : links ≡ numbers_where is_link 0 fields
+  pub plain_are : plain ≡ list_all is_plain fields
 
 -- a step of these fields
 pub record IsStep (fields : List Field) (s : Step) : Type 0 where

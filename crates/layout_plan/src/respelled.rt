@@ -2,6 +2,7 @@
 //! them may stand there.
 ghost use Rattle.std.specs.Prelude.{◌≡◌, ◌≤◌, ◌<◌, ◌*◌, ℕ, List, true, length, take, OnOk, IfOk};
 ghost use Rattle.scalar_types.specs.declared.Order.{Order};
+ghost use Rattle.type_text.specs.declared.types.Link.{Link as StructLink};
 ghost use Rattle.record_values.specs.Spelling.{IsNumber, IsText, IsClosedText, AreItems};
 ghost use Rattle.layout_plan.specs.Appends.{Appends};
 ghost use Rattle.layout_plan.specs.Respelled.{IsSumNumber, Respells, BeginsText, RespellsText, SpellsFew};
@@ -34,6 +35,21 @@ pub fn push_field(
         return Ok(0);
     }
     push_form(order, field, bytes, links, into)
+}
+
+/// Whether the bytes of a field in little-endian order spell its value as it is spelled again: numbers that are no check
+/// sum, and a text that is closed.
+pub fn is_spelled_alike(field: &Field, bytes: &[u8]) -> bool
+    ensures { result ≡ true → (links : List StructLink) → RespellsField Order.Little field.now bytes.now links 0 bytes.now }
+{
+    if field.is_sum {
+        return false;
+    }
+    match field.form {
+        Form::Number(_) | Form::Pair(_) => true,
+        Form::Text => field.counts.is_empty() && bytes.len() > 2,
+        Form::Link => false,
+    }
 }
 
 /// Appends the value of a field, and answers how many of the links it took.

@@ -1,4 +1,4 @@
-use Rattle.std.proofs.Common.{◌≡◌, ◌∙◌, ◌*◌, ◌-◌, ◌^◌, min, length, drop, ap, arith}
+use Rattle.std.proofs.Common.{◌≡◌, ◌∙◌, ◌*◌, ◌-◌, ◌^◌, min, ap, arith}
 use Rattle.std.proofs.lemmas.List.{drop_all}
 use Rattle.layout_plan.specs.Marks.{product_by}
 use Rattle.layout_plan.specs.Steps.{counter_value, AreThere}

@@ -1,8 +1,8 @@
-use Rattle.std.proofs.Common.{ℕ, ◌≡◌, ◌+◌, ◌<◌, length, arith, ap, sym, ◌∙◌, Err}
+use Rattle.std.proofs.Common.{◌≡◌, arith, ap, sym, ◌∙◌, Err}
 use Rattle.std.proofs.lemmas.Option.{slice_get_within}
 use Rattle.layout_plan.specs.declared.marks.Mark.{Mark}
 use Rattle.layout_plan.specs.declared.steps.Step.{Step}
-use Rattle.layout_plan.specs.Marks.{end_of, mark_of, place_of}
+use Rattle.layout_plan.specs.Marks.{mark_of}
 use Rattle.layout_plan.proofs.ReachLemmas.{IsReached-spelled, IsReached-unspelled, IsWalked-room}
 use Rattle.layout_plan.proofs.StepLemmas.{step-there, step-amount}
 use Rattle.layout_plan.proofs.walking.pass.Goals as goal

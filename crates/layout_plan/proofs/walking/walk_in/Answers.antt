@@ -1,9 +1,9 @@
-use Rattle.std.proofs.Common.{◌≡◌, ◌+◌, ◌<◌, length, arith, ap, sym, ◌∙◌, subst}
+use Rattle.std.proofs.Common.{◌≡◌, ◌<◌, length, arith, ap, sym, ◌∙◌, subst}
 use Rattle.layout_plan.specs.declared.marks.Mark.{Mark}
 use Rattle.layout_plan.specs.Marks.{mark_of, end_of}
 use Rattle.layout_plan.proofs.MarkLemmas.{mark_of-varied}
 use Rattle.layout_plan.proofs.StepLemmas.{steps-before, steps-at, IsStepAt, IsStepAt-step}
-use Rattle.layout_plan.proofs.ReachLemmas.{IsWalked-more, IsWalked-room, end_of-set}
+use Rattle.layout_plan.proofs.ReachLemmas.{IsWalked-more, end_of-set}
 use Rattle.layout_plan.proofs.walking.walk_in.Goals as goal
 
 pub slice_bounds-passed-end : goal.slice_bounds-passed-end
