@@ -305,6 +305,12 @@ step-there order fields body k f ends s made is sound lt places =
     subst (λ (s : Step). AreThere body ends s.counters) (sym made)
     (counters-there order fields body k ends f.counts places (omega arith) earlier)
 
+-- a product of one
+pub product-one : {X : Type 0} (f : X → ℕ) (xs : List X) (d : X) → length xs ≡ 1 → f (get_or xs 0 d) ≡ product_by f xs
+product-one f [] d one = absurd (omega (arith, one))
+product-one f (x ∷ []) d one = omega arith
+product-one f (x ∷ y ∷ xs) d one = absurd (omega (arith, one))
+
 -- one more factor of a product that is capped
 pub product-more : {X : Type 0} (f : X → ℕ) (xs : List X) (i : ℕ) (d : X) (count extent next cap : ℕ) → i < length xs
     → extent ≡ f (get_or xs i d) → next ≡ min (count * extent) cap

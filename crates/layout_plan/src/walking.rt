@@ -5,7 +5,7 @@ ghost use Rattle.scalar_types.specs.declared.Order.{Order};
 ghost use Rattle.layout_plan.specs.declared.fields.Field.{Field};
 ghost use Rattle.layout_plan.specs.Layout.{IsLayout};
 ghost use Rattle.layout_plan.specs.Reading.{field_in};
-ghost use Rattle.layout_plan.specs.Marks.{mark_of, end_of, place_of, fixed_width, is_varied};
+ghost use Rattle.layout_plan.specs.Marks.{mark_of, end_of, place_of, fixed_width, is_varied, product_by};
 ghost use Rattle.layout_plan.specs.Spelled.{Tells};
 ghost use Rattle.layout_plan.specs.Steps.{items_of, number_by, counter_value, step_count, IsStep, HasRoom};
 ghost use Rattle.layout_plan.specs.Steps.{IsThere, AreThere, IsAmount};
@@ -148,7 +148,24 @@ fn count_at(step: &Step, order: Order, body: &[u8], ends: &[usize]) -> usize
     ensures { result ≡ min (step_count order body.now ends.now step.now) (2 ^ 64 - 1) }
 {
     let counters = step.counters.as_slice();
-    let mut count = step.factor;
+    if counters.len() == 1 {
+        return capped_product(step.factor, extent_at(order, body, ends, &counters[0]), usize::MAX);
+    }
+    product_at(step.factor, counters, order, body, ends)
+}
+
+/// The product of a factor and what the counters count, or 2^64 - 1 where that is less.
+fn product_at(
+    factor: usize,
+    counters: &[Counter],
+    order: Order,
+    body: &[u8],
+    ends: &[usize],
+) -> usize
+    requires { AreThere body.now ends.now counters.now }
+    ensures { result ≡ min (factor * product_by (counter_value order body.now ends.now) counters.now) (2 ^ 64 - 1) }
+{
+    let mut count = factor;
     for counter in counters {
         count = capped_product(count, extent_at(order, body, ends, counter), usize::MAX);
     }
@@ -156,6 +173,7 @@ fn count_at(step: &Step, order: Order, body: &[u8], ends: &[usize]) -> usize
 }
 
 /// What a counter counts.
+#[inline(always)]
 fn extent_at(order: Order, body: &[u8], ends: &[usize], counter: &Counter) -> u64
     requires { IsThere body.now ends.now counter.now }
     ensures { result ≡ counter_value order body.now ends.now counter.now }
