@@ -34,7 +34,8 @@ pub fn capped_count(counts: &[Count], numbers: &[u64], cap: usize) -> usize
 pub fn capped_product(count: usize, extent: u64, cap: usize) -> usize
     ensures { result ≡ min (count * extent) cap }
 {
-    count.saturating_mul(extent as usize).min(cap)
+    let product = count as u128 * u128::from(extent);
+    product.min(cap as u128) as usize
 }
 
 /// The items along one dimension.

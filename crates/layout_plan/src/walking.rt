@@ -47,6 +47,22 @@ pub fn walk(
     requires room { (mark_of plan.now k).varied ≤ length ends.old }
     ensures { TellsReached order plan.now body.now k k ends.new result }
 {
+    walk_here(plan, k, order, body, ends)
+}
+
+/// The same, for a caller that takes a copy of its own.
+#[inline(always)]
+pub fn walk_here(
+    plan: &Plan,
+    k: usize,
+    order: Order,
+    body: &[u8],
+    ends: &mut [usize],
+) -> Result<Walked, BodyFault>
+    requires fields { k ≤ length plan.now }
+    requires room { (mark_of plan.now k).varied ≤ length ends.old }
+    ensures { TellsReached order plan.now body.now k k ends.new result }
+{
     match order {
         Order::Big => walk_in(plan, k, Order::Big, body, ends),
         Order::Little => walk_in(plan, k, Order::Little, body, ends),
@@ -149,7 +165,11 @@ fn count_at(step: &Step, order: Order, body: &[u8], ends: &[usize]) -> usize
 {
     let counters = step.counters.as_slice();
     if counters.len() == 1 {
-        return capped_product(step.factor, extent_at(order, body, ends, &counters[0]), usize::MAX);
+        return capped_product(
+            step.factor,
+            extent_at(order, body, ends, &counters[0]),
+            usize::MAX,
+        );
     }
     product_at(step.factor, counters, order, body, ends)
 }
