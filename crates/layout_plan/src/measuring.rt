@@ -6,7 +6,7 @@ ghost use Rattle.layout_plan.specs.Marks.{mark_of};
 ghost use Rattle.layout_plan.specs.Walking.{TellsBody};
 
 use crate::links::count_links;
-use crate::walking::{FEW_FIELDS, FEWEST_FIELDS, FIELD_LIMIT, fault, walk_here};
+use crate::walking::{FEW_FIELDS, FEWEST_FIELDS, FIELD_LIMIT, fault, walk};
 use crate::{BodyFault, BodyReason, Measured, Plan};
 use scalar_types::Order;
 
@@ -43,7 +43,7 @@ fn measure_in(
     ensures { TellsBody order plan.now body.now result }
 {
     let count = plan.fields().len();
-    let walked = match walk_here(plan, count, order, body, ends) {
+    let walked = match walk(plan, count, order, body, ends) {
         Ok(walked) => walked,
         Err(fault) => return Err(fault),
     };

@@ -37,10 +37,11 @@ pub fn push_field(
     push_form(order, field, bytes, links, into)
 }
 
-/// Whether the bytes of a field in little-endian order spell its value as it is spelled again: numbers that are no check
-/// sum, and a text that is closed.
+/// Whether the bytes of a field in little-endian order spell its value as it is spelled again: numbers that are
+/// no check sum, and a text that is closed.
 pub fn is_spelled_alike(field: &Field, bytes: &[u8]) -> bool
-    ensures { result ≡ true → (links : List StructLink) → RespellsField Order.Little field.now bytes.now links 0 bytes.now }
+    ensures { result ≡ true
+        → (links : List StructLink) → RespellsField Order.Little field.now bytes.now links 0 bytes.now }
 {
     if field.is_sum {
         return false;

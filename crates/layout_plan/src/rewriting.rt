@@ -112,8 +112,8 @@ fn push_each(
     Ok(())
 }
 
-/// The same of a little-endian body, whose fields stay as they are but for links, empty texts and the check sum:
-/// what stands between these is copied in one piece.
+/// The same of a little-endian body, whose fields stay as they are but for links, lists of texts, empty texts and
+/// the check sum: what stands between these is copied in one piece.
 fn push_pieces(
     plan: &Plan,
     body: &[u8],
@@ -146,7 +146,7 @@ fn push_pieces(
     into.extend_from_slice(&body[from..at])
 }
 
-/// Appends a piece as it is, and the value of the field after it, and answers how many of the links that took.
+/// Appends a piece as it is, and the value of the field after it. Answers how many of the links that took.
 fn push_changed(
     piece: &[u8],
     field: &Field,

@@ -35,24 +35,10 @@ pub struct Walked {
     pub zero_texts: u64,
 }
 
-/// Walks over the first k fields, with room for where each varied one among them ends.
-pub fn walk(
-    plan: &Plan,
-    k: usize,
-    order: Order,
-    body: &[u8],
-    ends: &mut [usize],
-) -> Result<Walked, BodyFault>
-    requires fields { k ≤ length plan.now }
-    requires room { (mark_of plan.now k).varied ≤ length ends.old }
-    ensures { TellsReached order plan.now body.now k k ends.new result }
-{
-    walk_here(plan, k, order, body, ends)
-}
-
-/// The same, for a caller that takes a copy of its own.
+/// Walks over the first k fields, with room for where each varied one among them ends. Each caller has a copy of
+/// its own.
 #[inline(always)]
-pub fn walk_here(
+pub fn walk(
     plan: &Plan,
     k: usize,
     order: Order,
@@ -183,7 +169,8 @@ fn product_at(
     ends: &[usize],
 ) -> usize
     requires { AreThere body.now ends.now counters.now }
-    ensures { result ≡ min (factor * product_by (counter_value order body.now ends.now) counters.now) (2 ^ 64 - 1) }
+    ensures { result
+        ≡ min (factor * product_by (counter_value order body.now ends.now) counters.now) (2 ^ 64 - 1) }
 {
     let mut count = factor;
     for counter in counters {

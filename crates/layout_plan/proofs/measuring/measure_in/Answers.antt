@@ -41,7 +41,7 @@ count_links-requires-clause-body c =
 pub count_links-requires-clause-places : goal.count_links-requires-clause-places
 count_links-requires-clause-places c =
     let count = ap length c.fields-count.ensures.fields in
-    subst (λ k. ArePlaces c.args.order c.args.plan.now c.args.body.now k c.walk_here.new.ends) count c.in-Ok.ensures.1
+    subst (λ k. ArePlaces c.args.order c.args.plan.now c.args.body.now k c.walk.new.ends) count c.in-Ok.ensures.1
 
 pub returns : goal.returns
 returns c =
