@@ -38,8 +38,10 @@ pub fn push_field(
 }
 
 /// Whether the bytes of a field in little-endian order spell its value as it is spelled again: numbers that are
-/// no check sum, and a text that is closed.
+/// no check sum, and texts that are all closed.
 pub fn is_spelled_alike(field: &Field, bytes: &[u8]) -> bool
+    requires { (links : List StructLink)
+        × SpellsFew Order.Little field.now.form field.now.counts bytes.now links }
     ensures { result ≡ true
         → (links : List StructLink) → RespellsField Order.Little field.now bytes.now links 0 bytes.now }
 {
@@ -48,9 +50,26 @@ pub fn is_spelled_alike(field: &Field, bytes: &[u8]) -> bool
     }
     match field.form {
         Form::Number(_) | Form::Pair(_) => true,
-        Form::Text => field.counts.is_empty() && bytes.len() > 2,
+        Form::Text => are_closed(bytes),
         Form::Link => false,
     }
+}
+
+/// Whether little-endian texts, one after another until the bytes end, are all closed by their zero bytes.
+fn are_closed(bytes: &[u8]) -> bool
+    requires { (texts : List (List ℕ)) × AreItems (IsText Order.Little) texts bytes.now }
+    ensures { result ≡ true
+        → Respells (IsText Order.Little) (IsClosedText Order.Little) bytes.now bytes.now }
+{
+    let mut at = 0;
+    while at < bytes.len() {
+        let length = read_num(Order::Little, Width::Two, &bytes[at..]) as usize;
+        if length == 0 {
+            return false;
+        }
+        at += 2 + length;
+    }
+    true
 }
 
 /// Appends the value of a field, and answers how many of the links it took.

@@ -112,8 +112,8 @@ fn push_each(
     Ok(())
 }
 
-/// The same of a little-endian body, whose fields stay as they are but for links, lists of texts, empty texts and
-/// the check sum: what stands between these is copied in one piece.
+/// The same of a little-endian body, whose fields stay as they are but for links, the check sum and texts of
+/// which one is spelled by a length of 0 alone: what stands between these is copied in one piece.
 fn push_pieces(
     plan: &Plan,
     body: &[u8],

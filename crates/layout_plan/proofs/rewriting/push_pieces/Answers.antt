@@ -103,6 +103,18 @@ push_changed-requires-clause-sum c =
     c.walk_body.ensures c.loop-k.invariant.here c.mark.ensures.mark c.place-end.ensures in
     sums-at c.args.plan.now c.loop-k.k c.index-fields-k.result c.fields-fields.ensures.layout.sums b.placed.is
 
+pub is_spelled_alike-requires : goal.is_spelled_alike-requires
+is_spelled_alike-requires c =
+    let f = c.index-fields-k.result in
+    let b = field-between c.args.plan.now c.fields-fields.result.now c.args.body.now c.loop-k.k
+    c.index-fields-k.result c.walk_body.new.ends c.mark.result c.loop-k.at c.place-end.result
+    c.fields-fields.ensures.layout c.fields-fields.ensures.fields c.loop-k-test.true c.index-fields-k.is
+    c.walk_body.ensures c.loop-k.invariant.here c.mark.ensures.mark c.place-end.ensures in
+    let left = few-left Little c.args.plan.now c.args.body.now c.args.links.now c.loop-k.k c.loop-k.next
+    c.loop-k.invariant.pieces.items f (record { start = c.loop-k.at; length = c.place-end.result - c.loop-k.at })
+    c.requires.read b.placed c.loop-k.invariant.pieces.related in
+    (drop c.loop-k.next c.args.links.now, left)
+
 pub push_changed-requires-clause-spelled : goal.push_changed-requires-clause-spelled
 push_changed-requires-clause-spelled c =
     let f = c.index-fields-k.result in

@@ -1,4 +1,4 @@
-use Rattle.std.proofs.Common.{◌∙◌, ◌*◌, ◌-◌, ◌^◌, min, ap, sym, arith}
+use Rattle.std.proofs.Common.{◌∙◌, ◌*◌, ◌-◌, ◌^◌, min, ap, arith}
 use Rattle.layout_plan.specs.Marks.{product_by}
 use Rattle.layout_plan.specs.Steps.{counter_value, AreThere}
 use Rattle.layout_plan.proofs.StepLemmas.{product-one}
