@@ -64,8 +64,8 @@ pub fn link_field(plan: &Plan, order: Order, body: &[u8], k: u64) -> u32
     link_place(plan, order, body, k).field
 }
 
-/// Appends the links of a body that spells the layout, in turn, each with its field. All of them cost one walk over the body.
-/// Where memory is out, `into` is as it was.
+/// Appends the links of a body that spells the layout, in turn, each with its field. All of them cost one walk over
+/// the body up to the last link field, and none where the layout has no link. Where memory is out, `into` is as it was.
 pub fn push_links(
     plan: &Plan,
     order: Order,
