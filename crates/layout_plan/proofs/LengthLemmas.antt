@@ -1,5 +1,5 @@
 -- How many bytes the fields of a body take, by its values and the texts that are spelled by a length of 0 alone.
-use Rattle.std.proofs.Common.{◌≡◌, ℕ, ◌+◌, ◌*◌, List, [], ◌∷◌, ◌++◌, length, map, sum_by, refl, sym, ap, ◌∙◌, arith}
+use Rattle.std.proofs.Common.{◌≡◌, ℕ, ◌+◌, ◌*◌, List, [], ◌∷◌, ◌++◌, length, map, sum_by, sym, ap, ◌∙◌, arith}
 use Rattle.std.proofs.Common.{inl, inr, add-zero, add_comm}
 use Rattle.std.proofs.Math.Nat.{suc-mul, zero-mul}
 use Rattle.std.proofs.lemmas.List.{length-append}
@@ -18,7 +18,7 @@ use Rattle.layout_plan.specs.declared.fields.Count.{Count}
 use Rattle.layout_plan.specs.declared.fields.Field.{Field}
 use Rattle.layout_plan.specs.Body.{number_of, item_count, IsSingle, IsListed, IsField, AreFields, text_length}
 use Rattle.layout_plan.specs.Body.{value_length, values_length, zero_text, zero_texts_in, zero_texts_single}
-use Rattle.layout_plan.specs.Body.{zero_texts_listed, zero_texts_field, zero_texts_fields, zero_texts_of, IsBody}
+use Rattle.layout_plan.specs.Body.{zero_texts_listed, zero_texts_field, zero_texts_fields}
 use Rattle.layout_plan.specs.BodyLaws.{LengthsAreTold}
 
 -- items that each have so many bytes

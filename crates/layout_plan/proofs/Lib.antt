@@ -7,6 +7,7 @@ pub mod Examples
 pub mod LentLemmas
 pub mod AppendLemmas
 pub mod LinkLemmas
+pub mod PlainLinkLemmas
 pub mod ReplaceLemmas
 pub mod FaultLemmas
 pub mod LengthLemmas
@@ -17,5 +18,6 @@ pub mod CounterLemmas
 pub mod WrittenLemmas
 pub mod RespelledLemmas
 pub mod RewriteLemmas
+pub mod PieceLemmas
 pub mod StepLemmas
 pub mod FixedLemmas

@@ -60,7 +60,7 @@ listed-none order (Pair width) n (value.Pairs xs) bytes other s = refl
 listed-none order Text n (value.Texts xs) bytes other s = refl
 listed-none order form n v bytes other s = absurd s
 
-field-none : (order : Order) (numbers : List ℕ) (form : Form) (counts : List Count) (v : Value) (bytes : List ℕ)
+pub field-none : (order : Order) (numbers : List ℕ) (form : Form) (counts : List Count) (v : Value) (bytes : List ℕ)
     → is_link_form form ≡ false → IsField order numbers form counts v bytes → links_of v ≡ []
 field-none order numbers form [] v bytes other s = single-none order form v bytes other s
 field-none order numbers form (c ∷ cs) v bytes other s = listed-none order form _ v bytes other s

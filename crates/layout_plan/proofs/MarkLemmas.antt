@@ -4,7 +4,7 @@ use Rattle.std.proofs.Common.{[], ◌∷◌, ◌++◌, length, take, drop, get_o
 use Rattle.std.proofs.Common.{◌∙◌, subst, arith, append_assoc, inl, inr}
 use Rattle.std.specs.Prelude.{slice_get}
 use Rattle.std.specs.Option.{option_map_or}
-use Rattle.std.proofs.lemmas.List.{at_drop_more, take_all, get_or-take, length-take, length-take-le}
+use Rattle.std.proofs.lemmas.List.{at_drop_more, take_all, length-take-le}
 use Rattle.std.proofs.lemmas.List.Sums.{sum_by-cons, count_by-le-length}
 use Rattle.std.proofs.lemmas.Option.{same_Some}
 use Rattle.scalar_types.specs.declared.Width.TheVariants.{One, Two, Four, Eight}

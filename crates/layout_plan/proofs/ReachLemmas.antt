@@ -1,5 +1,5 @@
 -- How far a walk over the varied fields has come.
-use Rattle.std.proofs.Common.{◌≡◌, ℕ, zero, suc, ◌+◌, ◌-◌, ◌<◌, ◌≤◌, min, inl, inr, true, is_none, List, [], ◌∷◌, ◌++◌}
+use Rattle.std.proofs.Common.{◌≡◌, ℕ, zero, suc, ◌+◌, ◌-◌, ◌<◌, ◌≤◌, inl, inr, true, is_none, List, [], ◌∷◌, ◌++◌}
 use Rattle.std.proofs.Common.{length, take, drop, get_or, set, map, Result, Ok, Err, Option, Some, None, refl, sym, ap}
 use Rattle.std.proofs.Common.{◌∙◌, subst, arith}
 use Rattle.std.specs.Prelude.{slice_get}
@@ -14,7 +14,7 @@ use Rattle.layout_plan.specs.declared.faults.BodyReason.{BodyReason}
 use Rattle.layout_plan.specs.declared.faults.BodyReason.TheVariants.{BodyShort}
 use Rattle.layout_plan.specs.declared.marks.Mark.{Mark}
 use Rattle.layout_plan.specs.declared.spelled.Spelled.{Spelled}
-use Rattle.layout_plan.specs.Body.{number_of, item_count, value_length, values_length}
+use Rattle.layout_plan.specs.Body.{number_of, value_length, values_length}
 use Rattle.layout_plan.specs.Reading.{field_in, fields_in}
 use Rattle.layout_plan.specs.Marks.{is_varied, past, mark_of, end_of, place_of}
 use Rattle.layout_plan.specs.Spelled.{Tells}
@@ -92,49 +92,38 @@ pub field-at : (fields items : List Field) (k : ℕ) (f g : Field) → items ≡
 field-at fields items k f g same is at =
     is ∙ ap (λ fields. get_or fields k f) same ∙ get_or_from_slice_get fields k g f at
 
--- what is told of field k, where its items are counted
-abbrev pub IsCounted : Order → List Field → List ℕ → ℕ → ℕ → ℕ → Type 0
-IsCounted order fields body k count cap =
-    (f : Field) (numbers : List ℕ) → slice_get fields k ≡ Some f → AreNumbers order fields body k numbers
-    → count ≡ min (item_count numbers f.counts) cap
-
-abbrev pub TellsCounted : Order → Field → List ℕ → ℕ → Result Spelled BodyReason → Type 0
-TellsCounted order f rest count r =
-    (numbers : List ℕ) → count ≡ min (item_count numbers f.counts) (length rest + 1)
+-- what is told of field k, by the numbers of the fields before it
+abbrev pub TellsField : Order → List Field → List ℕ → ℕ → Field → List ℕ → Result Spelled BodyReason → Type 0
+TellsField order fields body k f rest r =
+    (numbers : List ℕ) → AreNumbers order fields body k numbers
     → Tells (field_in order numbers f.form f.counts rest) f.form rest r
 
-spelled-Tells : (order : Order) (fields : List Field) (body : List ℕ) (k at zero_texts : ℕ) (f g : Field) (count : ℕ)
-    (r : Result Spelled BodyReason) (before : IsReached order fields body k at zero_texts) → f ≡ g
-    → slice_get fields k ≡ Some g
-    → IsCounted order fields body k count (length (take (length body - at) (drop at body)) + 1)
-    → TellsCounted order f (take (length body - at) (drop at body)) count r
-    → Tells (field_in order (map number_of before.values) g.form g.counts (drop at body)) g.form (drop at body) r
-spelled-Tells order fields body k at zero_texts f g count r before same is counted told =
+spelled-Tells : (order : Order) (fields : List Field) (body : List ℕ) (k at zero_texts : ℕ) (f : Field)
+    (r : Result Spelled BodyReason) (before : IsReached order fields body k at zero_texts)
+    → TellsField order fields body k f (take (length body - at) (drop at body)) r
+    → Tells (field_in order (map number_of before.values) f.form f.counts (drop at body)) f.form (drop at body) r
+spelled-Tells order fields body k at zero_texts f r before told =
     let numbers = map number_of before.values in
-    subst (λ rest. Tells (field_in order numbers g.form g.counts rest) g.form rest r) (take_rest body at)
-    (subst (λ (f : Field). TellsCounted order f (take (length body - at) (drop at body)) count r) same told numbers
-    (counted g numbers is (before.values, drop at body, before.reads, refl)))
+    subst (λ rest. Tells (field_in order numbers f.form f.counts rest) f.form rest r) (take_rest body at)
+    (told numbers (before.values, drop at body, before.reads, refl))
 
 -- one more field, as its spelling is told
-pub IsReached-spelled : (order : Order) (fields : List Field) (body : List ℕ) (k at zero_texts : ℕ) (f g : Field)
-    (count : ℕ) (s : Spelled) → IsReached order fields body k at zero_texts → f ≡ g → slice_get fields k ≡ Some g
-    → IsCounted order fields body k count (length (take (length body - at) (drop at body)) + 1)
-    → TellsCounted order f (take (length body - at) (drop at body)) count (Ok s)
+pub IsReached-spelled : (order : Order) (fields : List Field) (body : List ℕ) (k at zero_texts : ℕ) (f : Field)
+    (s : Spelled) → IsReached order fields body k at zero_texts → slice_get fields k ≡ Some f
+    → TellsField order fields body k f (take (length body - at) (drop at body)) (Ok s)
     → IsReached order fields body (k + 1) (at + s.length) (zero_texts + s.zero_texts)
-IsReached-spelled order fields body k at zero_texts f g count s before same is counted told =
-    let t = spelled-Tells order fields body k at zero_texts f g count (Ok s) before same is counted told in
-    IsReached-more order fields body k at zero_texts g t.value s.length s.zero_texts before is t.is t.within
+IsReached-spelled order fields body k at zero_texts f s before is told =
+    let t = spelled-Tells order fields body k at zero_texts f (Ok s) before told in
+    IsReached-more order fields body k at zero_texts f t.value s.length s.zero_texts before is t.is t.within
     t.size t.few_texts
 
-pub IsReached-unspelled : (order : Order) (fields : List Field) (body : List ℕ) (k at zero_texts : ℕ) (f g : Field)
-    (count : ℕ) (reason : BodyReason) → IsReached order fields body k at zero_texts → f ≡ g
-    → slice_get fields k ≡ Some g
-    → IsCounted order fields body k count (length (take (length body - at) (drop at body)) + 1)
-    → TellsCounted order f (take (length body - at) (drop at body)) count (Err reason)
+pub IsReached-unspelled : (order : Order) (fields : List Field) (body : List ℕ) (k at zero_texts : ℕ) (f : Field)
+    (reason : BodyReason) → IsReached order fields body k at zero_texts → slice_get fields k ≡ Some f
+    → TellsField order fields body k f (take (length body - at) (drop at body)) (Err reason)
     → fields_in order [] fields body ≡ Err (record { field = k; reason = reason })
-IsReached-unspelled order fields body k at zero_texts f g count reason before same is counted told =
-    IsReached-stops order fields body k at zero_texts g reason before is
-    (spelled-Tells order fields body k at zero_texts f g count (Err reason) before same is counted told)
+IsReached-unspelled order fields body k at zero_texts f reason before is told =
+    IsReached-stops order fields body k at zero_texts f reason before is
+    (spelled-Tells order fields body k at zero_texts f (Err reason) before told)
 
 -- a field at its place
 pub record IsAt (order : Order) (fields : List Field) (body : List ℕ) (i : ℕ) (ends : List ℕ) (mark : Mark)
@@ -388,6 +377,12 @@ IsWalked-cut order fields body i k ends zero_texts walked few lt same begins cut
         (drop (place_of ends (mark_of fields i)) body)
         (omega (arith, place, cut, begins, length-drop (place_of ends (mark_of fields i)) body)) in
         IsReached-stops order fields body i (place_of ends (mark_of fields i)) zero_texts f.0 BodyShort here f.1 short
+
+-- the end that was noted last
+pub end_of-set : (ends : List ℕ) (varied at : ℕ) → varied < length ends → at ≡ end_of (set ends varied at) (varied + 1)
+end_of-set ends varied at room =
+    let more : varied + 1 ≡ suc varied = omega arith in
+    sym (ap (end_of (set ends varied at)) more ∙ get_or-set_same ends varied at 0 room)
 
 -- one more varied field
 pub IsWalked-more : (order : Order) (fields : List Field) (body : List ℕ) (varied k : ℕ) (f : Field) (ends : List ℕ)

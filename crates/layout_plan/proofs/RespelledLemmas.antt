@@ -4,7 +4,7 @@ use Rattle.std.proofs.Common.{◌∷◌, ◌++◌, length, take, drop, refl, sym
 use Rattle.std.proofs.Common.{append-nil}
 use Rattle.std.specs.Prelude.{if◌then◌else◌}
 use Rattle.std.proofs.lemmas.List.{length-append, length-drop, length-take-le, drop_at, drop-drop, take_at, drop_all}
-use Rattle.std.proofs.Math.Seq.{drop-cons}
+use Rattle.std.proofs.Math.Seq.{drop-cons, take-add}
 use Rattle.scalar_types.specs.declared.Order.{Order}
 use Rattle.scalar_types.specs.declared.Order.TheVariants.{Big, Little}
 use Rattle.scalar_types.specs.declared.Width.{Width}
@@ -354,6 +354,25 @@ text-kept order bytes front' kept n read low number_is is text front rest split 
         size = subst (λ n. IsNumber Little Two n front') long number_is;
       },
     )
+
+-- a text that is closed is spelled by the same bytes again
+pub text-same : (bytes : List ℕ) (n : ℕ) → n ≡ number Little (take 2 bytes) → 0 < n
+    → RespellsText Little bytes (2 + n) (take (2 + n) bytes)
+text-same bytes n read low text front rest split s =
+    let size = text-size Little bytes text front rest n read split s in
+    let long : length front ≡ 2 + n = omega (arith, size.0) in (
+      sym long,
+      subst (IsClosedText Little text) (sym (ap (take (2 + n)) split ∙ take_at front rest (2 + n) long)) (size.2 low),
+    )
+
+pub texts-same : (bytes : List ℕ) (at n : ℕ) → at < length bytes → n ≡ number Little (take 2 (drop at bytes)) → 0 < n
+    → RespellsUpTo (IsText Little) (IsClosedText Little) bytes (drop at bytes) (take at bytes)
+    → RespellsUpTo (IsText Little) (IsClosedText Little) bytes (drop (at + (2 + n)) bytes) (take (at + (2 + n)) bytes)
+texts-same bytes at n lt read low before =
+    subst (RespellsUpTo (IsText Little) (IsClosedText Little) bytes (drop (at + (2 + n)) bytes))
+    (sym (take-add at (2 + n) bytes))
+    (texts-more Little bytes (take at bytes) (take (2 + n) (drop at bytes)) at (2 + n) lt
+    (text-same (drop at bytes) n read low) before)
 
 -- ---- links
 

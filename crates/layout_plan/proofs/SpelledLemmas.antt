@@ -1,6 +1,6 @@
 -- How far the items at the front of some bytes reach.
 use Rattle.std.proofs.Common.{◌≡◌, ◌≢◌, ℕ, zero, suc, ◌+◌, ◌-◌, ◌*◌, ◌^◌, ◌<◌, ◌≤◌, min, Bool, true, false, cond}
-use Rattle.std.proofs.Common.{is_none, List, [], ◌∷◌, ◌++◌, length, take, drop, get_or, eqb, sum_by, Result, Ok, Err}
+use Rattle.std.proofs.Common.{List, [], ◌∷◌, ◌++◌, length, take, drop, get_or, eqb, sum_by, Result, Ok, Err}
 use Rattle.std.proofs.Common.{refl, sym, ap, ◌∙◌, subst, arith, append_assoc, append-nil, add-zero, inl, inr, Some}
 use Rattle.std.proofs.lemmas.List.{length-append, length-drop, at_drop_more, drop-drop, length-take-le, take_rest}
 use Rattle.std.proofs.lemmas.List.{get_or-take, get_or-drop, take-take}
@@ -18,13 +18,12 @@ use Rattle.type_text.specs.declared.types.Link.{Link as StructLink}
 use Rattle.layout_plan.specs.declared.fields.Form.{Form}
 use Rattle.layout_plan.specs.declared.fields.Form.TheVariants.{Number, Pair, Text, Link}
 use Rattle.layout_plan.specs.declared.fields.Count.{Count}
-use Rattle.layout_plan.specs.declared.fields.Field.{Field}
 use Rattle.layout_plan.specs.declared.faults.BodyReason.{BodyReason}
 use Rattle.layout_plan.specs.declared.faults.BodyReason.TheVariants.{BodyShort, BadText}
 use Rattle.layout_plan.specs.declared.spelled.Spelled.{Spelled}
 use Rattle.layout_plan.specs.Body.{value_length, text_length, extent_of, item_count}
 use Rattle.layout_plan.specs.Reading.{Found, and_then, found_map, number_in, pair_in, closed_text, text_of_length}
-use Rattle.layout_plan.specs.Reading.{text_in, link_in, items_in, single_in, listed_in, field_in}
+use Rattle.layout_plan.specs.Reading.{text_in, link_in, items_in, listed_in, field_in}
 use Rattle.layout_plan.specs.Marks.{product_by, numeral_of, item_size, fixed_width}
 use Rattle.layout_plan.proofs.FixedLemmas.{IsShortList, fixed-list, numeral-items}
 use Rattle.layout_plan.specs.Spelled.{IsSpelled, Tells, IsTextSpelled, TellsText, TellsLength, zero_texts_of}
@@ -516,6 +515,14 @@ field_in-listed order numbers form [] bytes count some is = absurd (some refl)
 field_in-listed order numbers form (c ∷ cs) bytes count some is =
     sym (listed_in-capped order form (item_count numbers (c ∷ cs)) bytes)
     ∙ ap (λ n. listed_in order form n bytes) (sym is)
+
+-- the same by a count that no more than the bytes tell apart
+pub field_in-alike : (order : Order) (numbers : List ℕ) (form : Form) (counts : List Count) (bytes : List ℕ)
+    (count : ℕ) → (counts ≡ [] → ⊥) → min count (length bytes + 1) ≡ min (item_count numbers counts) (length bytes + 1)
+    → field_in order numbers form counts bytes ≡ listed_in order form count bytes
+field_in-alike order numbers form counts bytes count some same =
+    field_in-listed order numbers form counts bytes (min count (length bytes + 1)) some same
+    ∙ listed_in-capped order form count bytes
 
 -- a slice to the end
 pub TellsText-rest : (order : Order) (bytes : List ℕ) (at : ℕ) (r : Result ℕ BodyReason)

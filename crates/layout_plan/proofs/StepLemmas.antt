@@ -1,12 +1,12 @@
 -- The steps of a walk, and what their counters count.
-use Rattle.std.proofs.Common.{◌≡◌, ℕ, zero, suc, ◌+◌, ◌-◌, ◌*◌, ◌^◌, ◌<◌, ◌≤◌, min, Bool, true, false, cond, is_none}
-use Rattle.std.proofs.Common.{List, [], ◌∷◌, ◌++◌, length, take, drop, get_or, map, count_by, All, Option, Some, None}
+use Rattle.std.proofs.Common.{◌≡◌, ℕ, ◌+◌, ◌-◌, ◌*◌, ◌^◌, ◌<◌, ◌≤◌, min, true, false, is_none}
+use Rattle.std.proofs.Common.{List, [], ◌∷◌, ◌++◌, length, take, drop, get_or, map, All, Option, Some, None}
 use Rattle.std.proofs.Common.{Result, refl, sym, ap, ◌∙◌, subst, arith, append_assoc}
 use Rattle.std.specs.Prelude.{slice_get, option_and_then}
 use Rattle.std.specs.Option.{option_map_or}
-use Rattle.std.proofs.lemmas.List.{length-map, length-take-le, get_or-take, get_or-map, at_drop_more, length-drop}
+use Rattle.std.proofs.lemmas.List.{length-map, length-take-le, get_or-take, get_or-map, at_drop_more}
 use Rattle.std.proofs.lemmas.List.Elements.{All-cons, All-tail}
-use Rattle.std.proofs.Math.Nat.{mul_assoc, zero-mul}
+use Rattle.std.proofs.Math.Nat.{mul_assoc, mul_comm}
 use Rattle.scalar_types.specs.declared.Order.{Order}
 use Rattle.scalar_types.specs.declared.Width.{Width}
 use Rattle.scalar_types.specs.Number.{size_of}
@@ -16,27 +16,25 @@ use Rattle.layout_plan.specs.declared.fields.Count.{Count}
 use Rattle.layout_plan.specs.declared.fields.Count.TheVariants.{Fixed, Of, OfSigned}
 use Rattle.layout_plan.specs.declared.fields.Field.{Field}
 use Rattle.layout_plan.specs.declared.faults.BodyReason.{BodyReason}
-use Rattle.layout_plan.specs.declared.marks.Mark.{Mark}
 use Rattle.layout_plan.specs.declared.spelled.Spelled.{Spelled}
-use Rattle.layout_plan.specs.declared.steps.Items.{Items}
 use Rattle.layout_plan.specs.declared.steps.Items.TheVariants.{OneText, Texts, Plain}
 use Rattle.layout_plan.specs.declared.steps.Step.{Step}
 use Rattle.layout_plan.specs.Layout.{IsEarlier, AreSound}
-use Rattle.layout_plan.specs.Body.{item_count, extent_of}
+use Rattle.layout_plan.specs.Body.{item_count}
 use Rattle.layout_plan.specs.Reading.{single_in, listed_in, field_in}
-use Rattle.layout_plan.specs.Marks.{product_by, numeral_of, factor_of, fixed_width, is_varied, numbers_where, mark_of}
+use Rattle.layout_plan.specs.Marks.{product_by, numeral_of, fixed_width, is_varied, numbers_where, mark_of}
 use Rattle.layout_plan.specs.Marks.{place_of}
 use Rattle.layout_plan.specs.Spelled.{Tells, TellsLength}
-use Rattle.layout_plan.specs.Steps.{single_width, items_of, counter_of, counters_by, counters_of, width_at, step_of}
-use Rattle.layout_plan.specs.Steps.{no_step, step_at, steps_of, number_by, counted, counter_value, step_count, IsStep}
-use Rattle.layout_plan.specs.Steps.{HasRoom, IsThere, AreThere}
+use Rattle.layout_plan.specs.Steps.{single_width, items_of, unit_of, counter_of, counters_of, width_at}
+use Rattle.layout_plan.specs.Steps.{step_of, no_step, step_at, steps_of, number_by, counted, counter_value, step_count}
+use Rattle.layout_plan.specs.Steps.{IsStep, HasRoom, IsThere, AreThere, IsAmount}
 use Rattle.layout_plan.specs.Walking.{number_at, AreNumbers, ArePlaces}
-use Rattle.layout_plan.proofs.SpelledLemmas.{capped-product, field_in-listed, listed_numbers-Tells, listed_pairs-Tells}
-use Rattle.layout_plan.proofs.SpelledLemmas.{listed_links-Tells}
+use Rattle.layout_plan.proofs.SpelledLemmas.{capped-product, field_in-alike, listed_numbers-Tells}
+use Rattle.layout_plan.proofs.SpelledLemmas.{listed_pairs-Tells, listed_links-Tells}
 use Rattle.layout_plan.proofs.CounterLemmas.{AreSound-at, counter-is, counter-room}
 use Rattle.layout_plan.proofs.ReadingLemmas.{element-within}
 use Rattle.layout_plan.proofs.ReachLemmas.{ArePlaces-at}
-use Rattle.std.proofs.lemmas.Option.{slice_get_read, same_Some}
+use Rattle.std.proofs.lemmas.Option.{slice_get_read}
 use Rattle.layout_plan.proofs.MarkLemmas.{field-from, numbers_where-varied, IsNumbered, numbers_where-at}
 use Rattle.layout_plan.proofs.MarkLemmas.{length-numbers_where, mark_of-all, mark_of-later, IsLater-varied}
 
@@ -114,45 +112,53 @@ Tells-text order numbers Link counts bytes r is told = cc
 Tells-text order numbers Text [] bytes r is told = told
 Tells-text order numbers Text (c ∷ cs) bytes r is told = cc
 
-pub Tells-texts : (order : Order) (numbers : List ℕ) (form : Form) (counts : List Count) (count : ℕ) (bytes : List ℕ)
-    (r : Result Spelled BodyReason) → Texts ≡ items_of form counts
-    → count ≡ min (item_count numbers counts) (length bytes + 1) → Tells (listed_in order Text count bytes) Text bytes r
-    → Tells (field_in order numbers form counts bytes) form bytes r
-Tells-texts order numbers (Number width) counts count bytes r is capped told = cc
-Tells-texts order numbers (Pair width) counts count bytes r is capped told = cc
-Tells-texts order numbers Link counts count bytes r is capped told = cc
-Tells-texts order numbers Text [] count bytes r is capped told = cc
-Tells-texts order numbers Text (c ∷ cs) count bytes r is capped told =
-    subst (λ found. Tells found Text bytes r)
-    (sym (field_in-listed order numbers Text (c ∷ cs) bytes count (λ e. cc) capped)) told
+-- a count that is right as far as the greatest number tells
+same-count : (n m k : ℕ) → min n (2 ^ 64 - 1) ≡ min (m * 1) (2 ^ 64 - 1) → k < 2 ^ 64 - 1 → min n (k + 1) ≡ min m (k + 1)
+same-count n m k same short = omega arith
 
-pub Tells-plain : (order : Order) (numbers : List ℕ) (form : Form) (counts : List Count) (count size whole : ℕ)
-    (bytes : List ℕ) (r : Result Spelled BodyReason) → is_none (fixed_width form counts) ≡ true
-    → Plain size ≡ items_of form counts → count ≡ min (item_count numbers counts) (length bytes + 1)
-    → whole ≡ min (count * size) (2 ^ 64 - 1) → length bytes < 2 ^ 64 - 1 → TellsLength whole bytes r
-    → Tells (field_in order numbers form counts bytes) form bytes r
-Tells-plain order numbers (Number width) [] count size whole bytes r varied is capped product short told = cc
-Tells-plain order numbers (Pair width) [] count size whole bytes r varied is capped product short told = cc
-Tells-plain order numbers Link [] count size whole bytes r varied is capped product short told = cc
-Tells-plain order numbers Text [] count size whole bytes r varied is capped product short told = cc
-Tells-plain order numbers Text (c ∷ cs) count size whole bytes r varied is capped product short told = cc
-Tells-plain order numbers (Number width) (c ∷ cs) count size whole bytes r varied is capped product short told =
-    let same : size ≡ size_of width = cc in
-    subst (λ found. Tells found (Number width) bytes r)
-    (sym (field_in-listed order numbers (Number width) (c ∷ cs) bytes count (λ e. cc) capped))
-    (listed_numbers-Tells order width count bytes r whole (product
-    ∙ ap (λ s. min (count * s) (2 ^ 64 - 1)) same) short told)
-Tells-plain order numbers (Pair width) (c ∷ cs) count size whole bytes r varied is capped product short told =
-    let same : size ≡ 2 * size_of width = cc in
-    subst (λ found. Tells found (Pair width) bytes r)
-    (sym (field_in-listed order numbers (Pair width) (c ∷ cs) bytes count (λ e. cc) capped))
-    (listed_pairs-Tells order width count bytes r whole (product
-    ∙ ap (λ s. min (count * s) (2 ^ 64 - 1)) same) short told)
-Tells-plain order numbers Link (c ∷ cs) count size whole bytes r varied is capped product short told =
-    let same : size ≡ 6 = cc in
-    subst (λ found. Tells found Link bytes r)
-    (sym (field_in-listed order numbers Link (c ∷ cs) bytes count (λ e. cc) capped))
-    (listed_links-Tells order count bytes r whole (product ∙ ap (λ s. min (count * s) (2 ^ 64 - 1)) same) short told)
+capped-again : (count n k : ℕ) → count ≡ min n (2 ^ 64 - 1) → k < 2 ^ 64 - 1 → min count (k + 1) ≡ min n (k + 1)
+capped-again count n k is short = omega arith
+
+pub Tells-texts : (order : Order) (f : Field) (numbers : List ℕ) (n count : ℕ) (bytes : List ℕ)
+    (r : Result Spelled BodyReason) → Texts ≡ items_of f.form f.counts → IsAmount n numbers f
+    → count ≡ min n (2 ^ 64 - 1) → length bytes < 2 ^ 64 - 1 → Tells (listed_in order Text count bytes) Text bytes r
+    → Tells (field_in order numbers f.form f.counts bytes) f.form bytes r
+Tells-texts order f numbers n count bytes r is amount capped short told = by f.form f.counts is amount
+  where
+    by : (form : Form) (counts : List Count) → Texts ≡ items_of form counts
+        → min n (2 ^ 64 - 1) ≡ min (item_count numbers counts * unit_of form) (2 ^ 64 - 1)
+        → Tells (field_in order numbers form counts bytes) form bytes r
+    by (Number width) counts is amount = cc
+    by (Pair width) counts is amount = cc
+    by Link counts is amount = cc
+    by Text [] is amount = cc
+    by Text (c ∷ cs) is amount =
+        subst (λ found. Tells found Text bytes r)
+        (sym (field_in-alike order numbers Text (c ∷ cs) bytes count (λ e. cc)
+        (capped-again count n (length bytes) capped short
+        ∙ same-count n (item_count numbers (c ∷ cs)) (length bytes) amount short))) told
+
+pub Tells-plain : (order : Order) (f : Field) (numbers : List ℕ) (n whole : ℕ) (bytes : List ℕ)
+    (r : Result Spelled BodyReason) → is_varied f ≡ true → Plain ≡ items_of f.form f.counts → IsAmount n numbers f
+    → whole ≡ min n (2 ^ 64 - 1) → length bytes < 2 ^ 64 - 1 → TellsLength whole bytes r
+    → Tells (field_in order numbers f.form f.counts bytes) f.form bytes r
+Tells-plain order f numbers n whole bytes r varied is amount capped short told =
+    by f.form f.counts varied is (capped ∙ amount)
+  where
+    by : (form : Form) (counts : List Count) → is_none (fixed_width form counts) ≡ true → Plain ≡ items_of form counts
+        → whole ≡ min (item_count numbers counts * unit_of form) (2 ^ 64 - 1)
+        → Tells (field_in order numbers form counts bytes) form bytes r
+    by (Number width) [] varied is product = cc
+    by (Pair width) [] varied is product = cc
+    by Link [] varied is product = cc
+    by Text [] varied is product = cc
+    by Text (c ∷ cs) varied is product = cc
+    by (Number width) (c ∷ cs) varied is product =
+        listed_numbers-Tells order width (item_count numbers (c ∷ cs)) bytes r whole product short told
+    by (Pair width) (c ∷ cs) varied is product =
+        listed_pairs-Tells order width (item_count numbers (c ∷ cs)) bytes r whole product short told
+    by Link (c ∷ cs) varied is product =
+        listed_links-Tells order (item_count numbers (c ∷ cs)) bytes r whole product short told
 
 -- ---- counters
 
@@ -240,6 +246,9 @@ counters-there order fields body k ends (OfSigned i width ∷ cs) places le earl
 numeral-more : (n p q : ℕ) → (n * p) * q ≡ n * (p * q)
 numeral-more n p q = mul_assoc n p q
 
+unit-last : (p u q : ℕ) → (p * u) * q ≡ (p * q) * u
+unit-last p u q = mul_assoc p u q ∙ ap (λ n. p * n) (mul_comm u q) ∙ sym (mul_assoc p q u)
+
 named-more : (p v q : ℕ) → (1 * p) * (v * q) ≡ v * (p * q)
 named-more p v q = omega arith
 
@@ -271,23 +280,21 @@ counters-count order fields body k ends numbers (OfSigned i width ∷ cs) places
     (counters-count order fields body k ends numbers cs places le are
     (All-tail (IsEarlier k) (OfSigned i width) cs earlier))
 
-capped-alike : (a b m cap : ℕ) → min a m ≡ min b m → cap ≤ m → min a cap ≡ min b cap
-capped-alike a b m cap same le = omega arith
-
--- the count of a step is that of its field
-pub step-count : (order : Order) (fields : List Field) (body : List ℕ) (k : ℕ) (f : Field) (ends numbers : List ℕ)
-    (s : Step) (count cap : ℕ) → s ≡ step_of fields k f → slice_get fields k ≡ Some f → AreSound 0 fields
-    → k < length fields → ArePlaces order fields body k ends → AreNumbers order fields body k numbers → cap ≤ 2 ^ 64 - 1
-    → count ≡ min (step_count order body ends s) cap → count ≡ min (item_count numbers f.counts) cap
-step-count order fields body k f ends numbers s count cap made is sound lt places are le counts =
+-- what a step counts is what its field has
+pub step-amount : (order : Order) (fields : List Field) (body : List ℕ) (k : ℕ) (f : Field) (ends : List ℕ) (s : Step)
+    → s ≡ step_of fields k f → slice_get fields k ≡ Some f → AreSound 0 fields → k < length fields
+    → ArePlaces order fields body k ends → (numbers : List ℕ) → AreNumbers order fields body k numbers
+    → IsAmount (step_count order body ends s) numbers f
+step-amount order fields body k f ends s made is sound lt places numbers are =
     let value = product_by (counter_value order body ends) (counters_of fields f.counts) in
+    let numerals = product_by numeral_of f.counts in
     let earlier : All (IsEarlier k) f.counts =
     subst (λ i. All (IsEarlier i) f.counts) (omega arith) (AreSound-at 0 k fields f sound is) in
-    counts
-    ∙ ap (λ s. min (step_count order body ends s) cap) made
-    ∙ capped-alike (factor_of f.counts * value) (product_by numeral_of f.counts * value) (2 ^ 64 - 1) cap
-    (capped-product (product_by numeral_of f.counts) value (2 ^ 64 - 1)) le
-    ∙ ap (λ n. min n cap) (counters-count order fields body k ends numbers f.counts places (omega arith) are earlier)
+    ap (λ s. min (step_count order body ends s) (2 ^ 64 - 1)) made
+    ∙ capped-product (numerals * unit_of f.form) value (2 ^ 64 - 1)
+    ∙ ap (λ n. min n (2 ^ 64 - 1)) (unit-last numerals (unit_of f.form) value
+    ∙ ap (λ n. n * unit_of f.form) (counters-count order fields body k ends numbers f.counts places (omega arith) are
+    earlier))
 
 pub step-there : (order : Order) (fields : List Field) (body : List ℕ) (k : ℕ) (f : Field) (ends : List ℕ) (s : Step)
     → s ≡ step_of fields k f → slice_get fields k ≡ Some f → AreSound 0 fields → k < length fields
@@ -298,24 +305,11 @@ step-there order fields body k f ends s made is sound lt places =
     subst (λ (s : Step). AreThere body ends s.counters) (sym made)
     (counters-there order fields body k ends f.counts places (omega arith) earlier)
 
--- the same of the field that stands there
-pub step-counted : (order : Order) (fields : List Field) (body : List ℕ) (k : ℕ) (g : Field) (ends : List ℕ) (s : Step)
-    (count cap : ℕ) → s ≡ step_of fields k g → slice_get fields k ≡ Some g → AreSound 0 fields → k < length fields
-    → ArePlaces order fields body k ends → cap ≤ 2 ^ 64 - 1 → count ≡ min (step_count order body ends s) cap
-    → (f : Field) (numbers : List ℕ) → slice_get fields k ≡ Some f → AreNumbers order fields body k numbers
-    → count ≡ min (item_count numbers f.counts) cap
-step-counted order fields body k g ends s count cap made is sound lt places le counts f numbers at are =
-    step-count order fields body k g ends numbers s count cap made is sound lt places are le counts
-    ∙ ap (λ (f : Field). min (item_count numbers f.counts) cap) (same_Some g f (sym is ∙ at))
-
--- a product that begins with a capped factor, and one that ends with none
-pub capped-first : (factor others count cap : ℕ) → count ≡ min factor cap
-    → min (count * others) cap ≡ min (factor * others) cap
-capped-first factor others count cap is = ap (λ n. min (n * others) cap) is ∙ capped-product factor others cap
-
-pub capped-none : (count others whole cap : ℕ) → count ≡ 0 → min (count * others) cap ≡ min whole cap
-    → 0 ≡ min whole cap
-capped-none count others whole cap is same = omega (arith, ap (λ n. n * others) is, zero-mul others, same)
+-- a product of one
+pub product-one : {X : Type 0} (f : X → ℕ) (xs : List X) (d : X) → length xs ≡ 1 → f (get_or xs 0 d) ≡ product_by f xs
+product-one f [] d one = absurd (omega (arith, one))
+product-one f (x ∷ []) d one = omega arith
+product-one f (x ∷ y ∷ xs) d one = absurd (omega (arith, one))
 
 -- one more factor of a product that is capped
 pub product-more : {X : Type 0} (f : X → ℕ) (xs : List X) (i : ℕ) (d : X) (count extent next cap : ℕ) → i < length xs

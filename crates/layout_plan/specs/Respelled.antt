@@ -51,3 +51,8 @@ RespellsField order f bytes links used new =
     (numbers : List ℕ) (v : Value) → IsField order numbers f.form f.counts v bytes → (used ≡ length (links_of v))
     × IsFieldBy (IsClosedText Little) Little numbers f.form f.counts
     (linked_value (if f.is_sum then value.Num 0 else v) (take used links)) new
+
+-- the new bytes are a piece as it is, and after it those that spell the field's value again
+abbrev pub RespellsAfter : List ℕ → Field → List ℕ → List Link → ℕ → List ℕ → Type 0
+RespellsAfter piece f bytes links used new =
+    (one : List ℕ) × (new ≡ piece ++ one) × RespellsField Little f bytes links used one

@@ -1,7 +1,8 @@
 -- Of the inside. The steps of a walk over the varied fields, made of the fields once.
-use Rattle.std.specs.Prelude.{◌≡◌, ◌≤◌, ℕ, true, All, ◌+◌, ◌-◌, ◌*◌, ◌^◌, min, List, [], ◌∷◌, ◌++◌, length, map, take}
+use Rattle.std.specs.Prelude.{◌≡◌, ◌≤◌, ℕ, Bool, true, false, if◌then◌else◌, All, ◌-◌, ◌*◌, ◌^◌, min, List, [], ◌∷◌, ◌++◌, length, map, take}
 use Rattle.std.specs.Prelude.{drop, slice_get, Option, Some, None, option_and_then}
 use Rattle.std.specs.Option.{option_map_or}
+use Rattle.std.specs.List.{list_all}
 use Rattle.scalar_types.specs.declared.Order.{Order}
 use Rattle.scalar_types.specs.declared.Width.{Width}
 use Rattle.scalar_types.specs.Number.{number, size_of}
@@ -17,9 +18,9 @@ use Rattle.layout_plan.specs.declared.steps.Counter.{Counter}
 use Rattle.layout_plan.specs.declared.steps.Step.{Step}
 use Rattle.layout_plan.specs.Layout.{IsLayout}
 use Rattle.layout_plan.specs.Links.{is_link}
-use Rattle.layout_plan.specs.Body.{signed_count}
-use Rattle.layout_plan.specs.Marks.{product_by, factor_of, is_varied, numbers_where, first_mark, marks_from, mark_of}
-use Rattle.layout_plan.specs.Marks.{place_of}
+use Rattle.layout_plan.specs.Body.{signed_count, item_count}
+use Rattle.layout_plan.specs.Marks.{product_by, numeral_of, is_varied, numbers_where, first_mark, marks_from}
+use Rattle.layout_plan.specs.Marks.{mark_of, place_of}
 
 -- the width of one number
 abbrev pub single_width : Form → List Count → Option Width
@@ -28,11 +29,18 @@ single_width form counts = None
 
 -- what the bytes of a varied field are
 abbrev pub items_of : Form → List Count → Items
-items_of (Number width) counts = Plain (size_of width)
-items_of (Pair width) counts = Plain (2 * size_of width)
-items_of Link counts = Plain 6
+items_of (Number width) counts = Plain
+items_of (Pair width) counts = Plain
+items_of Link counts = Plain
 items_of Text [] = OneText
 items_of Text (c ∷ cs) = Texts
+
+-- what a step counts for one item: its bytes, or 1 where it is a text
+abbrev pub unit_of : Form → ℕ
+unit_of (Number width) = size_of width
+unit_of (Pair width) = 2 * size_of width
+unit_of Link = 6
+unit_of Text = 1
 
 -- the counter of a dimension that names field k
 abbrev pub width_at : List Field → ℕ → Option Width
@@ -58,7 +66,7 @@ step_of fields k f =
       field = k;
       mark = mark_of fields k;
       items = items_of f.form f.counts;
-      factor = factor_of f.counts;
+      factor = min (product_by numeral_of f.counts * unit_of f.form) (2 ^ 64 - 1);
       counters = counters_of fields f.counts;
     }
 
@@ -86,16 +94,30 @@ counted None n = n
 abbrev pub counter_value : Order → List ℕ → List ℕ → Counter → ℕ
 counter_value order body ends c = counted c.signed (number_by order c.width (drop (place_of ends c.mark) body))
 
--- the items of a step
+-- what a step counts: bytes, or texts
 abbrev pub step_count : Order → List ℕ → List ℕ → Step → ℕ
 step_count order body ends s = s.factor * product_by (counter_value order body ends) s.counters
 
+-- the bytes or texts of a field, as far as the greatest number tells: all its items
+abbrev pub IsAmount : ℕ → List ℕ → Field → Type 0
+IsAmount n numbers f = min n (2 ^ 64 - 1) ≡ min (item_count numbers f.counts * unit_of f.form) (2 ^ 64 - 1)
+
+-- a field that is no list of links
+abbrev pub has_no_counts : List Count → Bool
+has_no_counts [] = true
+has_no_counts (c ∷ cs) = false
+
+abbrev pub is_plain : Field → Bool
+is_plain f = if is_link f then has_no_counts f.counts else true
+
 -- what a plan keeps of its fields
-pub record ArePlanned (fields : List Field) (steps : List Step) (marks : List Mark) (links : List ℕ) : Type 0 where
+pub record ArePlanned (fields : List Field) (steps : List Step) (marks : List Mark) (links : List ℕ)
+    (plain : Bool) : Type 0 where
   pub layout : IsLayout fields
   pub steps_are : steps ≡ steps_of fields
   pub marks_are : marks ≡ marks_from first_mark fields
   pub links_are : links ≡ numbers_where is_link 0 fields
+  pub plain_are : plain ≡ list_all is_plain fields
 
 -- a step of these fields
 pub record IsStep (fields : List Field) (s : Step) : Type 0 where

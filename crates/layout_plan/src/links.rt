@@ -11,6 +11,7 @@ ghost use Rattle.layout_plan.specs.Marks.{mark_of};
 ghost use Rattle.layout_plan.specs.Walking.{ArePlaces};
 ghost use Rattle.layout_plan.specs.Links.{HasLink, HasLinkAt, HasLinkIn, IsLinkPlaced, IsReplaceable, AreLinks};
 ghost use Rattle.layout_plan.specs.Links.{links_with, HasLinks, is_link};
+ghost use Rattle.layout_plan.specs.Steps.{is_plain};
 
 use crate::lent::{place_by, walk_body};
 use crate::walking::{FEW_FIELDS, FEWEST_FIELDS, FIELD_LIMIT};
@@ -63,8 +64,8 @@ pub fn link_field(plan: &Plan, order: Order, body: &[u8], k: u64) -> u32
     link_place(plan, order, body, k).field
 }
 
-/// Appends the links of a body that spells the layout, in turn, each with its field. All of them cost one walk over the body.
-/// Where memory is out, `into` is as it was.
+/// Appends the links of a body that spells the layout, in turn, each with its field. All of them cost one walk over
+/// the body up to the last link field, and none where the layout has no link. Where memory is out, `into` is as it was.
 pub fn push_links(
     plan: &Plan,
     order: Order,
@@ -117,8 +118,13 @@ fn push_all_in(
     ensures { Appends (λ links. OnOk result (AreLinks order plan.now body.now links)) into.old.items
         into.new.items }
 {
-    walk_body(plan, plan.fields().len(), order, body, ends);
-    for field in plan.links() {
+    let links = plan.links();
+    let count = links.len();
+    if count == 0 {
+        return Ok(());
+    }
+    walk_body(plan, links[count - 1] as usize + 1, order, body, ends);
+    for field in links {
         let here = place_by(plan, *field as usize, ends);
         let rest = &body[here.start..];
         push_field(order, *field, &rest[..here.length], into)?;
@@ -192,6 +198,9 @@ pub fn count_links(plan: &Plan, order: Order, body: &[u8], ends: &[usize]) -> u6
     requires places { ArePlaces order plan.now body.now (length plan.now) ends.now }
     ensures { HasLinks order plan.now body.now result }
 {
+    if plan.links_are_plain() {
+        return plan.links().len() as u64;
+    }
     let mut count = 0;
     for field in plan.links() {
         count += place_by(plan, *field as usize, ends).length / LINK_SIZE;
@@ -204,6 +213,13 @@ pub fn is_link(field: &Field) -> bool
     ensures { result ≡ is_link field.now }
 {
     matches!(field.form, Form::Link)
+}
+
+/// Whether it is no list of links.
+pub fn is_plain(field: &Field) -> bool
+    ensures { result ≡ is_plain field.now }
+{
+    !is_link(field) || field.counts.is_empty()
 }
 
 /// The link at the front of the bytes.

@@ -2,13 +2,15 @@
 ghost use Rattle.std.specs.Prelude.{◌≡◌, ◌≤◌, ◌++◌, List, [], ◌∷◌, length, if◌then◌else◌, IfOk, OnOk};
 ghost use Rattle.layout_plan.specs.Layout.{layout_of, form_of, counted_by, named_count, is_check_sum, count_of};
 ghost use Rattle.layout_plan.specs.Layout.{counts_of, field_of, IsLayout};
+ghost use Rattle.std.specs.List.{list_all};
 ghost use Rattle.layout_plan.specs.Links.{is_link};
+ghost use Rattle.layout_plan.specs.Steps.{is_plain};
 ghost use Rattle.layout_plan.specs.Marks.{numbers_where, mark_of};
 ghost use Rattle.layout_plan.specs.Steps.{steps_of};
 ghost use Rattle.layout_plan.specs.Names.{count_at, HoldsNames};
 ghost use Rattle.dictionary.specs.declared.entries.Element.{Element};
 
-use crate::links::is_link;
+use crate::links::{is_link, is_plain};
 use crate::marks::{Mark, marks_of};
 use crate::steps::{Step, steps_of};
 use crate::{Count, CountList, Field, Form};
@@ -35,6 +37,8 @@ pub struct Plan {
     marks: ItemList<Mark>,
     /// The numbers of the links.
     links: ItemList<u32>,
+    /// Whether none of the links has a dimension.
+    links_are_plain: bool,
 }
 
 impl Model for Plan {
@@ -46,7 +50,7 @@ impl Model for Plan {
 
     ghost view = { λ plan. plan.fields };
 
-    ghost invariant = { λ plan. ArePlanned plan.fields plan.steps plan.marks plan.links };
+    ghost invariant = { λ plan. ArePlanned plan.fields plan.steps plan.marks plan.links plan.links_are_plain };
 }
 
 impl Plan {
@@ -81,6 +85,13 @@ impl Plan {
     {
         self.links.as_slice()
     }
+
+    /// Whether none of the links has a dimension, so that each is one link.
+    pub(crate) fn links_are_plain(&self) -> bool
+        ensures { result ≡ list_all is_plain self.now }
+    {
+        self.links_are_plain
+    }
 }
 
 /// The plan of an entry with at most 4,096 elements. None exactly where its layout is not readable.
@@ -113,12 +124,21 @@ pub fn planned(alloc: Global, fields: ItemList<Field>) -> Result<Plan, AllocErro
     let marks = marks_of(alloc, fields.as_slice())?;
     let steps = steps_of(alloc, fields.as_slice(), marks.as_slice())?;
     let links = link_numbers(alloc, fields.as_slice())?;
+    let links_are_plain = are_plain(fields.as_slice());
     Ok(Plan {
         fields,
         steps,
         marks,
         links,
+        links_are_plain,
     })
+}
+
+/// Whether none of the fields is a list of links.
+fn are_plain(fields: &[Field]) -> bool
+    ensures { result ≡ list_all is_plain fields.now }
+{
+    fields.iter().all(|field| is_plain(field))
 }
 
 /// The numbers of the fields that are links, in order.

@@ -2,6 +2,7 @@
 //! them may stand there.
 ghost use Rattle.std.specs.Prelude.{◌≡◌, ◌≤◌, ◌<◌, ◌*◌, ℕ, List, true, length, take, OnOk, IfOk};
 ghost use Rattle.scalar_types.specs.declared.Order.{Order};
+ghost use Rattle.type_text.specs.declared.types.Link.{Link as StructLink};
 ghost use Rattle.record_values.specs.Spelling.{IsNumber, IsText, IsClosedText, AreItems};
 ghost use Rattle.layout_plan.specs.Appends.{Appends};
 ghost use Rattle.layout_plan.specs.Respelled.{IsSumNumber, Respells, BeginsText, RespellsText, SpellsFew};
@@ -34,6 +35,41 @@ pub fn push_field(
         return Ok(0);
     }
     push_form(order, field, bytes, links, into)
+}
+
+/// Whether the bytes of a field in little-endian order spell its value as it is spelled again: numbers that are
+/// no check sum, and texts that are all closed.
+pub fn is_spelled_alike(field: &Field, bytes: &[u8]) -> bool
+    requires { (links : List StructLink)
+        × SpellsFew Order.Little field.now.form field.now.counts bytes.now links }
+    ensures { result ≡ true
+        → (links : List StructLink) → RespellsField Order.Little field.now bytes.now links 0 bytes.now }
+{
+    if field.is_sum {
+        return false;
+    }
+    match field.form {
+        Form::Number(_) | Form::Pair(_) => true,
+        Form::Text => are_closed(bytes),
+        Form::Link => false,
+    }
+}
+
+/// Whether little-endian texts, one after another until the bytes end, are all closed by their zero bytes.
+fn are_closed(bytes: &[u8]) -> bool
+    requires { (texts : List (List ℕ)) × AreItems (IsText Order.Little) texts bytes.now }
+    ensures { result ≡ true
+        → Respells (IsText Order.Little) (IsClosedText Order.Little) bytes.now bytes.now }
+{
+    let mut at = 0;
+    while at < bytes.len() {
+        let length = read_num(Order::Little, Width::Two, &bytes[at..]) as usize;
+        if length == 0 {
+            return false;
+        }
+        at += 2 + length;
+    }
+    true
 }
 
 /// Appends the value of a field, and answers how many of the links it took.

@@ -1,15 +1,11 @@
 //! How far a varied field of a body reaches, and what `measure` counts of it. No memory is taken, whatever
 //! count a list claims.
-ghost use Rattle.std.specs.Prelude.{◌≡◌, ℕ, ◌≤◌, ◌<◌, ◌+◌, ◌*◌, true, List, min, length};
-ghost use Rattle.layout_plan.specs.declared.fields.Field.{Field};
+ghost use Rattle.std.specs.Prelude.{◌≡◌, ◌<◌, ◌*◌, min, length};
 ghost use Rattle.layout_plan.specs.declared.fields.Form.TheVariants.{Text};
 ghost use Rattle.layout_plan.specs.Body.{extent_of, item_count, signed_count};
-ghost use Rattle.layout_plan.specs.Marks.{is_varied};
-ghost use Rattle.layout_plan.specs.Steps.{items_of};
-ghost use Rattle.layout_plan.specs.Reading.{single_in, listed_in, field_in, text_in};
+ghost use Rattle.layout_plan.specs.Reading.{single_in, listed_in, text_in};
 ghost use Rattle.layout_plan.specs.Spelled.{Tells, TellsText, TellsLength, zero_texts_of};
 
-use crate::steps::Items;
 use crate::{BodyReason, Count};
 use scalar_types::{Order, Width, read_num};
 
@@ -22,27 +18,6 @@ pub struct Spelled {
     pub zero_texts: u64,
 }
 
-/// A varied field at the front of the bytes. One with dimensions has so many items; a count above the number
-/// of bytes may stand for each greater one, since each item takes a byte or more.
-pub fn varied_at(
-    order: Order,
-    items: Items,
-    count: usize,
-    bytes: &[u8],
-) -> Result<Spelled, BodyReason>
-    ensures { (f : Field) (numbers : List ℕ)
-        → is_varied f ≡ true
-        → items ≡ items_of f.form f.counts
-        → count ≡ min (item_count numbers f.counts) (length bytes.now + 1)
-        → Tells (field_in order numbers f.form f.counts bytes.now) f.form bytes.now result }
-{
-    match items {
-        Items::OneText => text_at(order, bytes),
-        Items::Texts => texts_at(order, count, bytes),
-        Items::Plain(size) => plain_at(count.saturating_mul(size as usize), bytes),
-    }
-}
-
 /// The items of a field: the product of its counts by the numbers of the fields before it, or the cap where
 /// that is less. Takes no memory.
 pub fn capped_count(counts: &[Count], numbers: &[u64], cap: usize) -> usize
@@ -50,9 +25,6 @@ pub fn capped_count(counts: &[Count], numbers: &[u64], cap: usize) -> usize
 {
     let mut count = cap.min(1);
     for each in counts {
-        if count == 0 {
-            return 0;
-        }
         count = capped_product(count, extent(*each, numbers), cap);
     }
     count
@@ -62,7 +34,8 @@ pub fn capped_count(counts: &[Count], numbers: &[u64], cap: usize) -> usize
 pub fn capped_product(count: usize, extent: u64, cap: usize) -> usize
     ensures { result ≡ min (count * extent) cap }
 {
-    count.saturating_mul(extent as usize).min(cap)
+    let product = count as u128 * u128::from(extent);
+    product.min(cap as u128) as usize
 }
 
 /// The items along one dimension.
@@ -87,7 +60,7 @@ pub fn signed_count(width: Width, n: u64) -> u64
 }
 
 /// So many bytes.
-fn plain_at(length: usize, bytes: &[u8]) -> Result<Spelled, BodyReason>
+pub fn plain_at(length: usize, bytes: &[u8]) -> Result<Spelled, BodyReason>
     ensures { TellsLength length bytes.now result }
 {
     if bytes.len() < length {
@@ -100,7 +73,7 @@ fn plain_at(length: usize, bytes: &[u8]) -> Result<Spelled, BodyReason>
 }
 
 /// One text.
-fn text_at(order: Order, bytes: &[u8]) -> Result<Spelled, BodyReason>
+pub fn text_at(order: Order, bytes: &[u8]) -> Result<Spelled, BodyReason>
     ensures { Tells (single_in order Text bytes.now) Text bytes.now result }
 {
     let length = match text_length(order, bytes) {
@@ -114,7 +87,7 @@ fn text_at(order: Order, bytes: &[u8]) -> Result<Spelled, BodyReason>
 }
 
 /// So many texts.
-fn texts_at(order: Order, count: usize, bytes: &[u8]) -> Result<Spelled, BodyReason>
+pub fn texts_at(order: Order, count: usize, bytes: &[u8]) -> Result<Spelled, BodyReason>
     ensures { Tells (listed_in order Text count bytes.now) Text bytes.now result }
 {
     let mut at = 0;

@@ -4,11 +4,13 @@ ghost use Rattle.std.specs.Prelude.{◌≡◌, ◌≤◌, ◌<◌, ◌++◌, len
 ghost use Rattle.layout_plan.specs.Layout.{AreSound, IsEarlier};
 ghost use Rattle.layout_plan.specs.declared.fields.Field.{Field};
 ghost use Rattle.layout_plan.specs.Marks.{first_mark, marks_from};
-ghost use Rattle.layout_plan.specs.Steps.{single_width, items_of, counter_of, counters_by, counters_of};
+ghost use Rattle.layout_plan.specs.Steps.{single_width, items_of, unit_of, counter_of};
+ghost use Rattle.layout_plan.specs.Steps.{counters_by, counters_of};
 ghost use Rattle.layout_plan.specs.Steps.{step_of, steps_of};
 
 use crate::links::LINK_SIZE;
 use crate::marks::{Mark, factor_of, fixed_width};
+use crate::spelled::capped_product;
 use crate::{Count, Field, Form};
 use scalar_types::Width;
 use std::alloc::{AllocError, Global};
@@ -19,8 +21,8 @@ use type_text::ItemList;
 pub enum Items {
     OneText,
     Texts,
-    /// Items of so many bytes.
-    Plain(u32),
+    /// Items that are all of one size.
+    Plain,
 }
 
 /// The number of a field that a dimension names.
@@ -40,7 +42,7 @@ pub struct Step {
     pub field: u32,
     pub mark: Mark,
     pub items: Items,
-    /// The product of its numeral dimensions, or 2^64 - 1 where that is less.
+    /// The bytes of an item, or 1 for a text, times the numeral dimensions, or 2^64 - 1 where that is less.
     pub factor: usize,
     /// One for each of its other dimensions.
     pub counters: ItemList<Counter>,
@@ -84,7 +86,7 @@ fn step_of(alloc: Global, fields: &[Field], marks: &[Mark], i: usize) -> Result<
         field: i as u32,
         mark: marks[i],
         items: items_of(field),
-        factor: factor_of(counts),
+        factor: capped_product(factor_of(counts), unit_of(field.form), usize::MAX),
         counters,
     })
 }
@@ -94,9 +96,7 @@ fn items_of(field: &Field) -> Items
     ensures { result ≡ items_of field.now.form field.now.counts }
 {
     match field.form {
-        Form::Number(width) => Items::Plain(width.size() as u32),
-        Form::Pair(width) => Items::Plain(2 * width.size() as u32),
-        Form::Link => Items::Plain(LINK_SIZE as u32),
+        Form::Number(_) | Form::Pair(_) | Form::Link => Items::Plain,
         Form::Text => {
             if field.counts.is_empty() {
                 Items::OneText
@@ -104,6 +104,18 @@ fn items_of(field: &Field) -> Items
                 Items::Texts
             }
         }
+    }
+}
+
+/// The bytes of an item, or 1 for a text.
+fn unit_of(form: Form) -> u64
+    ensures { result ≡ unit_of form }
+{
+    match form {
+        Form::Number(width) => width.size() as u64,
+        Form::Pair(width) => 2 * width.size() as u64,
+        Form::Link => LINK_SIZE as u64,
+        Form::Text => 1,
     }
 }
 

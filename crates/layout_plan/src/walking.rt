@@ -1,16 +1,19 @@
 //! A walk over the varied fields of a body. The fields of fixed width between them are passed over by the
 //! plan's marks.
-ghost use Rattle.std.specs.Prelude.{◌≡◌, ◌+◌, ◌*◌, ◌≤◌, ◌<◌, ◌^◌, ℕ, List, min, length, Some};
+ghost use Rattle.std.specs.Prelude.{◌≡◌, ◌+◌, ◌-◌, ◌*◌, ◌≤◌, ◌<◌, ◌^◌, ℕ, List, true, min, length, Some};
 ghost use Rattle.scalar_types.specs.declared.Order.{Order};
+ghost use Rattle.layout_plan.specs.declared.fields.Field.{Field};
 ghost use Rattle.layout_plan.specs.Layout.{IsLayout};
-ghost use Rattle.layout_plan.specs.Marks.{mark_of, end_of, place_of, fixed_width};
-ghost use Rattle.layout_plan.specs.Steps.{number_by, counter_value, step_count, IsStep, HasRoom, IsThere};
-ghost use Rattle.layout_plan.specs.Steps.{AreThere};
+ghost use Rattle.layout_plan.specs.Reading.{field_in};
+ghost use Rattle.layout_plan.specs.Marks.{mark_of, end_of, place_of, fixed_width, is_varied, product_by};
+ghost use Rattle.layout_plan.specs.Spelled.{Tells};
+ghost use Rattle.layout_plan.specs.Steps.{items_of, number_by, counter_value, step_count, IsStep, HasRoom};
+ghost use Rattle.layout_plan.specs.Steps.{IsThere, AreThere, IsAmount};
 ghost use Rattle.layout_plan.specs.Walking.{number_at, IsWalked, HasWalked, TellsReached, TellsStart};
 
 use crate::marks::Mark;
-use crate::spelled::{capped_product, signed_count, varied_at};
-use crate::steps::{Counter, Step, single_width};
+use crate::spelled::{Spelled, capped_product, plain_at, signed_count, text_at, texts_at};
+use crate::steps::{Counter, Items, Step, single_width};
 use crate::{BodyFault, BodyReason, Field, Plan};
 use scalar_types::{Order, Width, read_num};
 
@@ -32,7 +35,9 @@ pub struct Walked {
     pub zero_texts: u64,
 }
 
-/// Walks over the first k fields, with room for where each varied one among them ends.
+/// Walks over the first k fields, with room for where each varied one among them ends. Each caller has a copy of
+/// its own.
+#[inline(always)]
 pub fn walk(
     plan: &Plan,
     k: usize,
@@ -44,73 +49,138 @@ pub fn walk(
     requires room { (mark_of plan.now k).varied ≤ length ends.old }
     ensures { TellsReached order plan.now body.now k k ends.new result }
 {
-    let count = plan.mark(k).varied as usize;
+    match order {
+        Order::Big => walk_in(plan, k, Order::Big, body, ends),
+        Order::Little => walk_in(plan, k, Order::Little, body, ends),
+    }
+}
+
+/// The same. Each order has a copy of its own, which does not look at the order again.
+#[inline(always)]
+fn walk_in(
+    plan: &Plan,
+    k: usize,
+    order: Order,
+    body: &[u8],
+    ends: &mut [usize],
+) -> Result<Walked, BodyFault>
+    requires fields { k ≤ length plan.now }
+    requires room { (mark_of plan.now k).varied ≤ length ends.old }
+    ensures { TellsReached order plan.now body.now k k ends.new result }
+{
+    let mark = plan.mark(k);
+    let mut at = 0;
     let mut zero_texts = 0;
-    let passed = &plan.steps()[..count];
+    let passed = &plan.steps()[..mark.varied as usize];
     for (j, step) in passed.iter().enumerate() {
-        match pass(plan, step, order, body, ends, zero_texts) {
+        match pass(plan, step, order, body, ends, Walked { at, zero_texts }) {
             Ok(walked) => {
-                ends[j] = walked.at;
+                at = walked.at;
+                ends[j] = at;
                 zero_texts = walked.zero_texts;
             }
             Err(fault) => return Err(fault),
         }
     }
-    match start_of(plan, k, plan.mark(k), body, ends) {
+    match start_of(plan, k, at + mark.skip as usize, body, ends) {
         Ok(at) => Ok(Walked { at, zero_texts }),
         Err(fault) => Err(fault),
     }
 }
 
-/// Walks over the field of a step, after the varied fields before it, which have so many texts of a length of
-/// 0 alone.
+/// Walks over the field of a step, after the varied fields before it.
+#[inline(always)]
 fn pass(
     plan: &Plan,
     step: &Step,
     order: Order,
     body: &[u8],
     ends: &[usize],
-    zero_texts: u64,
+    before: Walked,
 ) -> Result<Walked, BodyFault>
     requires layout { IsLayout plan.now }
     requires step { IsStep plan.now step.now }
     requires walked { IsWalked order plan.now body.now (mark_of plan.now step.now.field).varied
-        ends.now zero_texts }
+        ends.now before.zero_texts }
+    requires at { before.at ≡ end_of ends.now (mark_of plan.now step.now.field).varied }
     ensures { TellsReached order plan.now body.now (step.now.field + 1) step.now.field ends.now result }
 {
     let k = step.field as usize;
-    let start = match start_of(plan, k, step.mark, body, ends) {
+    let start = match start_of(plan, k, before.at + step.mark.skip as usize, body, ends) {
         Ok(start) => start,
         Err(fault) => return Err(fault),
     };
     let rest = &body[start..];
-    let count = count_at(step, order, body, ends, rest.len() + 1);
-    match varied_at(order, step.items, count, rest) {
+    match spelled_at(step, order, body, ends, rest) {
         Ok(spelled) => Ok(Walked {
             at: start + spelled.length,
-            zero_texts: zero_texts + spelled.zero_texts,
+            zero_texts: before.zero_texts + spelled.zero_texts,
         }),
         Err(reason) => Err(fault(k, reason)),
     }
 }
 
-/// The items of a step, or the cap where that is less, by the numbers that stand in the fields before it.
-fn count_at(step: &Step, order: Order, body: &[u8], ends: &[usize], cap: usize) -> usize
+/// The varied field of a step at the front of the bytes that are left.
+#[inline(always)]
+fn spelled_at(
+    step: &Step,
+    order: Order,
+    body: &[u8],
+    ends: &[usize],
+    rest: &[u8],
+) -> Result<Spelled, BodyReason>
     requires { AreThere body.now ends.now step.now.counters }
-    ensures { result ≡ min (step_count order body.now ends.now step.now) cap }
+    ensures { (f : Field) (numbers : List ℕ)
+        → is_varied f ≡ true
+        → step.now.items ≡ items_of f.form f.counts
+        → IsAmount (step_count order body.now ends.now step.now) numbers f
+        → Tells (field_in order numbers f.form f.counts rest.now) f.form rest.now result }
+{
+    match step.items {
+        Items::OneText => text_at(order, rest),
+        Items::Texts => texts_at(order, count_at(step, order, body, ends), rest),
+        Items::Plain => plain_at(count_at(step, order, body, ends), rest),
+    }
+}
+
+/// The bytes or texts of a step, or 2^64 - 1 where that is less, by the numbers in the fields before it.
+#[inline(always)]
+fn count_at(step: &Step, order: Order, body: &[u8], ends: &[usize]) -> usize
+    requires { AreThere body.now ends.now step.now.counters }
+    ensures { result ≡ min (step_count order body.now ends.now step.now) (2 ^ 64 - 1) }
 {
     let counters = step.counters.as_slice();
-    let mut count = step.factor.min(cap);
+    if counters.len() == 1 {
+        return capped_product(
+            step.factor,
+            extent_at(order, body, ends, &counters[0]),
+            usize::MAX,
+        );
+    }
+    product_at(step.factor, counters, order, body, ends)
+}
+
+/// The product of a factor and what the counters count, or 2^64 - 1 where that is less.
+fn product_at(
+    factor: usize,
+    counters: &[Counter],
+    order: Order,
+    body: &[u8],
+    ends: &[usize],
+) -> usize
+    requires { AreThere body.now ends.now counters.now }
+    ensures { result
+        ≡ min (factor * product_by (counter_value order body.now ends.now) counters.now) (2 ^ 64 - 1) }
+{
+    let mut count = factor;
     for counter in counters {
-        if count == 0 {
-            return 0;
-        }
-        count = capped_product(count, extent_at(order, body, ends, counter), cap);
+        count = capped_product(count, extent_at(order, body, ends, counter), usize::MAX);
     }
     count
 }
 
 /// What a counter counts.
+#[inline(always)]
 fn extent_at(order: Order, body: &[u8], ends: &[usize], counter: &Counter) -> u64
     requires { IsThere body.now ends.now counter.now }
     ensures { result ≡ counter_value order body.now ends.now counter.now }
@@ -143,24 +213,24 @@ pub fn number_at(order: Order, field: &Field, bytes: &[u8]) -> u64
     number_by(order, single_width(field), bytes)
 }
 
-/// Where field k begins, or the fields end, by its mark, after a walk over the varied fields before it. All
+/// The place where field k begins, or the fields end, after a walk over the varied fields before it. All
 /// fields before it must be whole.
+#[inline(always)]
 fn start_of(
     plan: &Plan,
     k: usize,
-    mark: Mark,
+    at: usize,
     body: &[u8],
     ends: &[usize],
 ) -> Result<usize, BodyFault>
     requires layout { IsLayout plan.now }
     requires field { k ≤ length plan.now }
-    requires mark { mark ≡ mark_of plan.now k }
     requires walked { HasWalked plan.now body.now (mark_of plan.now k).varied ends.now }
+    requires at { at ≡ place_of ends.now (mark_of plan.now k) }
     ensures { (order : Order) (zero_texts : ℕ)
         → IsWalked order plan.now body.now (mark_of plan.now k).varied ends.now zero_texts
         → TellsStart order plan.now body.now k ends.now zero_texts result }
 {
-    let at = place(mark, ends);
     if at <= body.len() {
         return Ok(at);
     }
@@ -168,6 +238,8 @@ fn start_of(
 }
 
 /// The field before field k that the body's end cuts, where k begins after that end.
+#[cold]
+#[inline(never)]
 fn cut_field(plan: &Plan, k: usize, body: &[u8], ends: &[usize]) -> usize
     requires field { k ≤ length plan.now }
     requires walked { HasWalked plan.now body.now (mark_of plan.now k).varied ends.now }

@@ -1,5 +1,6 @@
-use Rattle.std.proofs.Common.{◌+◌, ◌/◌, arith, length, refl}
+use Rattle.std.proofs.Common.{◌+◌, ◌/◌, arith, length, refl, sym, ◌∙◌}
 use Rattle.layout_plan.proofs.LinkLemmas.{link-within, link-places, link-list, counted-more, counted-few, counted-all}
+use Rattle.layout_plan.proofs.PlainLinkLemmas.{plain-links}
 use Rattle.layout_plan.proofs.links.count_links.Goals as goal
 
 pub place_by-requires-clause-field : goal.place_by-requires-clause-field
@@ -49,3 +50,8 @@ pub returns : goal.returns
 returns c =
     counted-all c.args.order c.args.plan.now c.args.body.now c.links-field-items.result.now c.loop-field.field-index
     c.loop-field.count c.links-field-items.ensures c.loop-field-test.false c.loop-field.invariant
+
+pub returns-then-links_are_plain : goal.returns-then-links_are_plain
+returns-then-links_are_plain c =
+    plain-links c.args.order c.args.plan.now c.args.body.now c.links.result.now c.links.ensures
+    (sym c.links_are_plain.ensures ∙ c.if-links_are_plain.true)

@@ -10,4 +10,4 @@ use Rattle.layout_plan.proofs.links.push_all_in.Given as goal
 abbrev pub invariant-loop-field : goal.invariant-loop-field
 invariant-loop-field l =
     Appends (λ links. (values : List Value) (tail : List ℕ) → IsBody l.order l.plan values tail l.body
-    → links ≡ flat_map (links_at values) (take l.field-index l.field-items)) l.fn.into.items l.into.items
+    → links ≡ flat_map (links_at values) (take l.field-index l.links)) l.fn.into.items l.into.items

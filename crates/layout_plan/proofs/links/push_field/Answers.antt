@@ -1,9 +1,9 @@
-use Rattle.std.proofs.Common.{◌≡◌, ◌+◌, ◌*◌, ◌++◌, ◌∷◌, [], List, length, sym, ap, refl, ◌∙◌, arith, append-nil}
+use Rattle.std.proofs.Common.{◌≡◌, ◌*◌, ◌++◌, ◌∷◌, [], List, sym, ap, refl, ◌∙◌, append-nil}
 use Rattle.std.proofs.lemmas.List.{take_rest}
 use Rattle.layout_plan.specs.declared.links.FieldLink.{FieldLink}
 use Rattle.layout_plan.specs.Reading.{link_in}
 use Rattle.layout_plan.proofs.AppendLemmas.{Appends-more, Appends-as, Appends-refused}
-use Rattle.layout_plan.proofs.LinkLemmas.{AreFirstLinks, first-links-more, first-links-all}
+use Rattle.layout_plan.proofs.LinkLemmas.{first-links-more, first-links-all}
 use Rattle.layout_plan.proofs.links.push_field.Goals as goal
 
 pub loop-i-preserved : goal.loop-i-preserved

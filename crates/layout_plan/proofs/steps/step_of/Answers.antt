@@ -1,8 +1,9 @@
-use Rattle.std.proofs.Common.{get_or, length, refl, sym, ap, ◌∙◌, arith}
+use Rattle.std.proofs.Common.{◌*◌, ◌-◌, ◌^◌, min, get_or, length, refl, sym, ap, ◌∙◌, arith}
 use Rattle.std.proofs.lemmas.Option.{slice_get_read, same_Some}
 use Rattle.layout_plan.specs.declared.fields.Field.{Field}
-use Rattle.layout_plan.specs.Marks.{first_mark, factor_of}
-use Rattle.layout_plan.specs.Steps.{items_of, counters_of}
+use Rattle.layout_plan.specs.Marks.{first_mark, product_by, numeral_of}
+use Rattle.layout_plan.specs.Steps.{items_of, unit_of, counters_of}
+use Rattle.layout_plan.proofs.SpelledLemmas.{capped-product}
 use Rattle.layout_plan.proofs.MarkLemmas.{marks_from-at, length-marks_from}
 use Rattle.layout_plan.proofs.StepLemmas.{sound-within}
 use Rattle.layout_plan.proofs.steps.step_of.Goals as goal
@@ -28,6 +29,11 @@ returns c = λ f is.
     ∙ marks_from-at first_mark c.args.fields.now c.args.i first_mark (omega (arith, c.requires.field)) in
     let counts = c.as_slice-counts.ensures ∙ ap (λ (f : Field). f.counts) same in
     let items = c.items_of.ensures ∙ ap (λ (f : Field). items_of f.form f.counts) same in
-    let factor = c.factor_of.ensures ∙ ap factor_of counts in
+    let numerals = ap (product_by numeral_of) counts in
+    let unit = c.unit_of.ensures ∙ ap (λ (f : Field). unit_of f.form) same in
+    let factor = c.capped_product.ensures ∙ ap (λ n. min (n * c.unit_of.result) (2 ^ 64 - 1)) c.factor_of.ensures
+    ∙ capped-product (product_by numeral_of c.as_slice-counts.result.now) c.unit_of.result (2 ^ 64 - 1)
+    ∙ ap (λ n. min (n * c.unit_of.result) (2 ^ 64 - 1)) numerals
+    ∙ ap (λ u. min (product_by numeral_of f.counts * u) (2 ^ 64 - 1)) unit in
     let counters = c.in_ok-counters.ensures ∙ ap (counters_of c.args.fields.now) counts in
     λ t. record { field = c.args.i; mark = mark t; items = items t; factor = factor t; counters = counters t }

@@ -1,6 +1,5 @@
-use Rattle.std.proofs.Common.{◌≤◌, ◌+◌, ◌∙◌, ap, drop, arith}
+use Rattle.std.proofs.Common.{arith}
 use Rattle.std.proofs.lemmas.List.{take_rest}
-use Rattle.layout_plan.specs.Steps.{number_by, HasRoom, counted}
 use Rattle.layout_plan.proofs.walking.extent_at.Goals as goal
 
 pub place-start-requires-clause-below : goal.place-start-requires-clause-below

@@ -1,39 +1,17 @@
 use Rattle.std.proofs.Common.{ℕ, arith, ap, sym, ◌∙◌, Ok, Err, subst}
-use Rattle.layout_plan.specs.declared.marks.Mark.{Mark}
-use Rattle.layout_plan.specs.Marks.{place_of, end_of}
 use Rattle.layout_plan.specs.Walking.{TellsStart}
-use Rattle.layout_plan.proofs.ReachLemmas.{IsWalked-room, IsWalked-start, IsWalked-cut}
+use Rattle.layout_plan.proofs.ReachLemmas.{IsWalked-start, IsWalked-cut}
 use Rattle.layout_plan.proofs.walking.start_of.Goals as goal
 
-pub place-at-requires-clause-room : goal.place-at-requires-clause-room
-place-at-requires-clause-room c =
-    omega (
-      arith,
-      ap (λ (m : Mark). m.varied) c.requires.mark,
-      IsWalked-room c.requires.walked.0 c.args.plan.now c.args.body.now _ c.args.ends.now c.requires.walked.1
-          c.requires.walked.2,
-    )
-
-pub place-at-requires-clause-below : goal.place-at-requires-clause-below
-place-at-requires-clause-below c =
-    omega (
-      arith,
-      ap (λ (m : Mark). end_of c.args.ends.now m.varied) c.requires.mark,
-      IsWalked-room c.requires.walked.0 c.args.plan.now c.args.body.now _ c.args.ends.now c.requires.walked.1
-          c.requires.walked.2,
-    )
-
 pub cut_field-requires-clause-after : goal.cut_field-requires-clause-after
-cut_field-requires-clause-after c =
-    omega (arith, c.if-at-body.false, c.place-at.ensures ∙ ap (place_of c.args.ends.now) c.requires.mark)
+cut_field-requires-clause-after c = omega (arith, c.if-at-body.false, c.requires.at)
 
 pub returns-then-at-body : goal.returns-then-at-body
 returns-then-at-body c = λ order zero_texts walked.
-    let at = c.place-at.ensures ∙ ap (place_of c.args.ends.now) c.requires.mark in
     let start = IsWalked-start order c.args.plan.now c.args.body.now c.args.k c.args.ends.now zero_texts walked
-    c.requires.field (omega (arith, at, c.if-at-body.true)) in
+    c.requires.field (omega (arith, c.requires.at, c.if-at-body.true)) in
     subst (λ (at : ℕ). TellsStart order c.args.plan.now c.args.body.now c.args.k c.args.ends.now zero_texts
-    (Ok at)) (sym at) start
+    (Ok at)) (sym c.requires.at) start
 
 pub fault-requires : goal.fault-requires
 fault-requires c = omega (arith, c.requires.layout.short, c.requires.field, c.cut_field.ensures.before)

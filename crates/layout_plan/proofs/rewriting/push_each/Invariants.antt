@@ -1,6 +1,6 @@
 use Rattle.layout_plan.specs.Appends.{Appends}
 use Rattle.layout_plan.proofs.RewriteLemmas.{AreRewrittenUpTo}
-use Rattle.layout_plan.proofs.rewriting.push_fields.Given as goal
+use Rattle.layout_plan.proofs.rewriting.push_each.Given as goal
 
 -- the fields so far
 abbrev pub invariant-loop-k : goal.invariant-loop-k
