@@ -27,6 +27,11 @@ use Rattle.file_grammar.specs.Described.{element_at, longest_run, entry_from}
 use Rattle.file_grammar.specs.Item.{Item, EntryItem, OtherItem}
 use Rattle.file_grammar.specs.Fault.{Here, kind, structure}
 
+-- why no structure has this length
+abbrev pub size_reason : ℕ → Option Reason
+size_reason told =
+    if nat_lt told 14 then Some LengthSmall else (if nat_lt record_limit told then Some RecordLimit else None)
+
 -- why the bytes at a place are no whole structure within the limit
 abbrev pub length_reason : Order → List ℕ → ℕ → Option Reason
 length_reason order file at =

@@ -14,5 +14,5 @@ pub use kind::{Kind, kind_of};
 pub use laws::{
     files_are_judged_once, items_are_unique, items_before_faults_are_unique, reasons_are_least,
 };
-pub use limits::{FILE_LIMIT, FRAMES_LIMIT, RECORD_LIMIT};
+pub use limits::{FILE_LIMIT, FRAMES_LIMIT, RECORD_LIMIT, size_reason};
 pub use reason::Reason;

@@ -8,7 +8,7 @@ ghost use Rattle.frame_tool.specs.Walk.{IsVerdict, file_limit};
 ghost use Rattle.frame_tool.specs.WalkSteps.{IsFound, Moves, Judges, body_size_of, FindsOn, ReadsOneFile};
 
 use crate::verdict::Verdict;
-use file_grammar::{FILE_LIMIT, RECORD_LIMIT, Reason};
+use file_grammar::{FILE_LIMIT, Reason, size_reason};
 use frame_head::{HEAD_SIZE, HEADER_SIZE, read_common, read_header};
 use frame_outside::{Failed, Shelf, ShelfError, SlotReader};
 use scalar_types::Order;
@@ -123,10 +123,9 @@ fn find_structure<S: Shelf>(
 fn body_size(length: u64) -> u64
     ensures { result ≡ body_size_of length }
 {
-    if length <= RECORD_LIMIT {
-        length.saturating_sub(HEAD_SIZE as u64)
-    } else {
-        0
+    match size_reason(length) {
+        None => length - HEAD_SIZE as u64,
+        Some(_) => 0,
     }
 }
 
@@ -140,10 +139,8 @@ fn judge(at: u64, seen: u64, length: u64) -> Found
         Found::End
     } else if seen < HEAD_SIZE as u64 {
         Found::Fault(Reason::CutRecord)
-    } else if length < HEAD_SIZE as u64 {
-        Found::Fault(Reason::LengthSmall)
-    } else if length > RECORD_LIMIT {
-        Found::Fault(Reason::RecordLimit)
+    } else if let Some(reason) = size_reason(length) {
+        Found::Fault(reason)
     } else if seen < length {
         Found::Fault(Reason::CutRecord)
     } else if at + length > FILE_LIMIT {

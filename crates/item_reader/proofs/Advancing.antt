@@ -10,7 +10,7 @@ use Rattle.file_grammar.specs.declared.reason.Reason.{Reason}
 use Rattle.file_grammar.specs.declared.reason.Reason.TheVariants.{LengthSmall, RecordLimit}
 use Rattle.file_grammar.specs.Structure.{record_limit}
 use Rattle.file_grammar.specs.Fault.{Here}
-use Rattle.item_reader.specs.Placed.{size_reason}
+use Rattle.file_grammar.specs.Steps.{size_reason}
 use Rattle.item_reader.specs.declared.cursor.Cursor.{Cursor}
 use Rattle.item_reader.specs.State.{before_of}
 use Rattle.item_reader.specs.Cursor.{InFile}

@@ -2,19 +2,12 @@
 use Rattle.std.specs.Prelude.{◌≡◌, ℕ, ◌+◌, ◌≤◌, nat_lt, if◌then◌else◌, slice_range, drop, List, length, Option, Some, None}
 use Rattle.scalar_types.specs.declared.Order.{Order}
 use Rattle.frame_head.specs.declared.structure.Common.{Common}
-use Rattle.file_grammar.specs.declared.reason.Reason.{Reason}
-use Rattle.file_grammar.specs.declared.reason.Reason.TheVariants.{LengthSmall, RecordLimit}
 use Rattle.file_grammar.specs.Structure.{Structure, record_limit, common_at, structure_at}
 use Rattle.item_reader.specs.declared.structure.Placed.{Placed}
 
 -- the structure of these 14 bytes at a place
 abbrev pub placed_at : ℕ → Common → Placed
 placed_at at common = record { at = at; length = common.length; class = common.class; instance = common.instance }
-
--- why no structure has this length
-abbrev pub size_reason : ℕ → Option Reason
-size_reason told =
-    if nat_lt told 14 then Some LengthSmall else (if nat_lt record_limit told then Some RecordLimit else None)
 
 -- its body in a file
 abbrev pub body_of : List ℕ → Placed → List ℕ

@@ -1,10 +1,9 @@
 //! A whole structure where it stands in a file.
 
 ghost use Rattle.std.specs.Prelude.{◌≡◌};
-ghost use Rattle.item_reader.specs.Placed.{placed_at, size_reason};
+ghost use Rattle.item_reader.specs.Placed.{placed_at};
 
-use file_grammar::{RECORD_LIMIT, Reason};
-use frame_head::{Common, HEAD_SIZE};
+use frame_head::Common;
 
 /// A structure: where it stands, in bytes from the beginning of the file, and what its first 14 bytes say.
 #[derive(Clone, Copy)]
@@ -25,18 +24,5 @@ pub fn placed_at(at: u64, common: Common) -> Placed
         length: common.length,
         class: common.class,
         instance: common.instance,
-    }
-}
-
-/// Why no structure has this length.
-pub fn size_reason(length: u64) -> Option<Reason>
-    ensures { result ≡ size_reason length }
-{
-    if length < HEAD_SIZE as u64 {
-        Some(Reason::LengthSmall)
-    } else if length > RECORD_LIMIT {
-        Some(Reason::RecordLimit)
-    } else {
-        None
     }
 }
