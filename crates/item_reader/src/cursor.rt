@@ -1,7 +1,7 @@
 //! Where a reader stands in its file, and the next item there: the structure at the place is read as far as it is
 //! asked for, judged, and taken.
 
-ghost use Rattle.std.specs.Prelude.{◌≡◌, ◌+◌, ◌-◌, ◌<◌, ◌≤◌, ◌⊎◌, ℕ, true, None, Some, Err, length, IfOk, OnOk, OnErr, IsOk};
+ghost use Rattle.std.specs.Prelude.{◌≡◌, ◌+◌, ◌-◌, ◌<◌, ◌≤◌, ◌⊎◌, ℕ, true, false, None, Some, Err, length, IfOk, OnOk, OnErr, IsOk};
 ghost use Rattle.frame_outside.specs.Counts.{Rose};
 ghost use Rattle.structure_source.specs.declared.source.Head.TheVariants as head;
 ghost use Rattle.structure_source.specs.Source.{Stands, GoesOn, IsHead, drawn};
@@ -9,10 +9,11 @@ ghost use Rattle.file_grammar.specs.declared.fault.Fault.{Fault};
 ghost use Rattle.file_grammar.specs.declared.kind.Kind.TheVariants as variant;
 ghost use Rattle.file_grammar.specs.Structure.{record_limit};
 ghost use Rattle.file_grammar.specs.Kind.{kind_of, is_frame_kind, is_target_kind};
-ghost use Rattle.file_grammar.specs.Fault.{fault_here};
+ghost use Rattle.file_grammar.specs.Fault.{first_of, fault_here};
 ghost use Rattle.item_reader.specs.Placed.{IsStructureAt, IsPlaced, StandsIn, body_of};
 ghost use Rattle.item_reader.specs.Looked.{ReadsTo, IsWithinLook, look};
-ghost use Rattle.item_reader.specs.Judged.{IsKept, ClosesBy};
+ghost use Rattle.item_reader.specs.Judged.{InEachFile, IsKept, ClosesBy, body_reasons};
+ghost use Rattle.item_reader.specs.Entries.{Begins};
 ghost use Rattle.item_reader.specs.State.{IsSound, before_of};
 ghost use Rattle.item_reader.specs.Cursor.{IsReady, HasPassed, InFile, GivesNext, table_body};
 
@@ -21,6 +22,7 @@ use crate::item::{Item, ReadError};
 use crate::looked::Looked;
 use crate::state::State;
 use crate::structure::{Placed, placed_at, size_reason};
+use dictionary::Entry;
 use file_grammar::{Fault, Kind, Reason, kind_of};
 use frame_head::{Common, HEAD_SIZE};
 use frame_outside::Shelf;
@@ -120,12 +122,9 @@ impl Cursor {
             (λ h. IsWithinLook h.order h.file h.before.place (drawn self.new.source))) }
     {
         self.bring_own(shelf, head)?;
+        let mut entry = self.begin_entry(head)?;
         let alloc = *self.own.allocator();
         let order = self.state.order();
-        let plans = &self.state.built_in;
-        self.state
-            .read_by(&plans.structure, head, self.own.as_slice())?;
-        let mut entry = begun_entry(alloc, order, &plans.structure, self.own.as_slice())?;
         let Run {
             elements,
             end,
@@ -135,12 +134,33 @@ impl Cursor {
             &mut self.source,
             shelf,
             order,
-            &plans.element,
+            &self.state.built_in.element,
             &mut self.own,
         )?;
         entry.elements = elements;
         self.looked = looked;
         self.state.take_entry(head, entry, end)
+    }
+
+    /// The entry that begins with an FrSH, of which the body was brought, without its elements.
+    fn begin_entry(&self, head: Placed) -> Result<Entry, ReadError>
+        requires sound { IsSound self.now.state }
+        requires unclosed { self.now.state.closed ≡ false }
+        requires here { IsStructureAt self.now.state.at head }
+        requires size { head.length ≡ 14 + length self.now.own.items }
+        requires kind { kind_of self.now.state.dictionary head.class ≡ variant.FrSH }
+        ensures begins { IfOk result (λ entry. Begins self.now.state.segment.order self.now.own.items entry) }
+        ensures reads { OnOk result (InEachFile self.now.state head self.now.own.items
+            (λ h. first_of body_reasons h ≡ None)) }
+        ensures fault { (fault : Fault) → result ≡ Err (ReadError.Fault fault)
+            → InEachFile self.now.state head self.now.own.items (λ h. fault_here h ≡ Some fault) }
+        ensures no_device { result ≡ Err ReadError.Device → ⊥ }
+    {
+        let plan = &self.state.built_in.structure;
+        let body = self.own.as_slice();
+        self.state.read_by(plan, head, body)?;
+        let alloc = *self.own.allocator();
+        Ok(begun_entry(alloc, self.state.order(), plan, body)?)
     }
 
     /// Answers the fault of an FrSE that is in no entry's run.
