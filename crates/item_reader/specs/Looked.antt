@@ -1,13 +1,14 @@
 -- How far a reader reads ahead, and what it knows of the structure at the place that it has reached.
-use Rattle.std.specs.Prelude.{◌≡◌, ℕ, ◌+◌, ◌≤◌, ◌⊎◌, ◌&&◌, nat_le, Bool, false, if◌then◌else◌, List, Some, sum_by}
+use Rattle.std.specs.Prelude.{◌≡◌, ℕ, ◌+◌, ◌≤◌, ◌⊎◌, ◌&&◌, nat_le, Bool, false, if◌then◌else◌, List, Some, None, sum_by}
 use Rattle.scalar_types.specs.declared.Order.{Order}
 use Rattle.dictionary.specs.declared.entries.Entry.{Entry}
 use Rattle.structure_source.specs.declared.source.Head.TheVariants.{Whole}
 use Rattle.structure_source.specs.Source.{IsHead}
-use Rattle.file_grammar.specs.Structure.{Structure, record_limit, common_at, left_at, size_of, end_of}
-use Rattle.file_grammar.specs.Described.{IsEntry}
+use Rattle.file_grammar.specs.Structure.{record_limit, common_at, left_at, size_of, end_of, structure_at}
+use Rattle.file_grammar.specs.Described.{longest_run, entry_from}
 use Rattle.file_grammar.specs.Item.{Before}
 use Rattle.file_grammar.specs.Fault.{fault_here}
+use Rattle.file_grammar.specs.Steps.{length_reason}
 use Rattle.item_reader.specs.declared.looked.Looked.{Looked}
 use Rattle.item_reader.specs.declared.looked.Looked.TheVariants.{Nothing, Seen, Wrong}
 
@@ -38,14 +39,14 @@ IsLooked order file place read (Wrong fault) =
     → fault_here (record { order = order; file = file; before = before }) ≡ Some fault)
     × (place ≤ read) × (read + 65536 ≤ look order file place)
 
--- the place after the entry that stands at a place, where one does
+-- The place after the entry that a whole FrSH at a place begins.
 pub record IsAfterEntry (order : Order) (file : List ℕ) (place end : ℕ) : Type 0 where
-  pub head : Structure
-  pub run : List Structure
+  pub class : (structure_at order file place).class ≡ 1
+  pub whole : length_reason order file place ≡ None
   pub entry : Entry
-  pub here : head.at ≡ place
-  pub stands : IsEntry order file head run entry
-  pub end_is : end ≡ end_of head + sum_by size_of run
+  pub described : entry_from order file (structure_at order file place) ≡ Some entry
+  pub end_is : end ≡ end_of (structure_at order file place)
+      + sum_by (λ e. size_of e.0) (longest_run order file (end_of (structure_at order file place)))
 
 -- The bytes drawn are at most the look of the place, or of the place after the entry that stands there.
 abbrev pub IsWithinLook : Order → List ℕ → ℕ → ℕ → Type 0
