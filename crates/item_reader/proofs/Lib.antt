@@ -28,3 +28,4 @@ pub mod Runs
 pub mod Recording
 pub mod Advancing
 pub mod Ending
+pub mod Entering

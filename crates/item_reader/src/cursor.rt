@@ -200,10 +200,7 @@ impl Cursor {
             (λ h. IsWithinLook h.order h.file h.before.place (drawn self.new.source))) }
     {
         self.bring_own(shelf, element)?;
-        Err(self
-            .state
-            .stray_fault(element, self.own.as_slice())
-            .into())
+        Err(self.state.stray_fault(element, self.own.as_slice()).into())
     }
 
     /// Takes a contents table. Its body is kept where its layout is readable, and never judged.
@@ -256,11 +253,7 @@ impl Cursor {
     }
 
     /// Takes the end record of a frame.
-    fn take_frame_end<S: Shelf>(
-        &mut self,
-        shelf: &mut S,
-        placed: Placed,
-    ) -> Result<Item, ReadError>
+    fn take_frame_end<S: Shelf>(&mut self, shelf: &mut S, placed: Placed) -> Result<Item, ReadError>
         requires passed { HasPassed (S.outside shelf.old) self.old placed }
         requires kind { kind_of self.old.state.dictionary placed.class ≡ variant.FrEndOfFrame }
         ensures answers { InFile (S.outside shelf.old) self.old (λ h. GivesNext h result self.new) }
