@@ -1,6 +1,6 @@
 -- The end of the file: what is given of it, and what stands after it.
-use Rattle.std.proofs.Common.{◌≡◌, ◌+◌, ◌-◌, ◌<◌, ◌≤◌, ℕ, true, false, [], length, Some, None, inr, refl, sym, ap}
-use Rattle.std.proofs.Common.{◌∙◌, subst, arith}
+use Rattle.std.proofs.Common.{◌≡◌, ◌+◌, ◌-◌, ◌<◌, ◌≤◌, ℕ, true, false, List, [], length, Ok, Some, None}
+use Rattle.std.proofs.Common.{inr, refl, sym, ap, ◌∙◌, subst, arith}
 use Rattle.std.specs.Prelude.{◌==◌}
 use Rattle.std.proofs.lemmas.Bool.{ne_eqb, false≢true}
 use Rattle.frame_outside.specs.Shelf.{Outside, Reading, reading_at}
@@ -20,7 +20,7 @@ use Rattle.item_reader.specs.declared.structure.Placed.{Placed}
 use Rattle.item_reader.specs.Placed.{StandsIn}
 use Rattle.item_reader.specs.Looked.{look, IsLooked}
 use Rattle.item_reader.specs.State.{IsSound, here_in, before_of}
-use Rattle.item_reader.specs.Judged.{Takes, ClosesBy}
+use Rattle.item_reader.specs.Judged.{InEachFile, Answers, Takes, ClosesBy}
 use Rattle.item_reader.specs.Reader.{Faults, Collects}
 use Rattle.item_reader.specs.Cursor.{HasPassed, InFile, Gives, body_in}
 use Rattle.item_reader.proofs.Collecting.{frame-collected}
@@ -30,7 +30,8 @@ use Rattle.item_reader.proofs.Passing.{look-head}
 -- ---- one byte more
 
 -- a source that has passed the whole structure and then asked for one byte has drawn no further than the look
-pub beyond-look : (outside : Outside) (c : Cursor) (p : Placed) (middle after : Position) → HasPassed outside c p
+pub beyond-look : (outside : Outside) (c : Cursor) (p : Placed) (middle after : Position)
+    → HasPassed outside c p
     → InFile outside c (λ h. drawn middle ≤ look h.order h.file h.before.place)
     → middle.at ≡ c.state.at + p.length → IsBounded middle 1 after
     → InFile outside c (λ h. drawn after ≤ look h.order h.file h.before.place)
@@ -39,8 +40,8 @@ beyond-look outside c p middle after passed few moved bounded = λ reading told.
     omega (arith, far, few reading told, bounded.few, moved)
 
 -- there was none: the source stands still, at the end of the file
-pub no_more : (first now : Outside) (start middle after : Position) (reading : Reading) → GoesOn first now start middle
-    → Stands now middle → reading_at first.slots start.slot ≡ Some reading
+pub no_more : (first now : Outside) (start middle after : Position) (reading : Reading)
+    → GoesOn first now start middle → Stands now middle → reading_at first.slots start.slot ≡ Some reading
     → PassesNext (reading_at now.slots middle.slot) middle after 1 false → middle.at ≤ after.at
     → after.at ≤ middle.at + 1 → (after.at ≡ middle.at) × (middle.at ≡ length reading.opened)
 no_more first now start middle after reading goes stands told passes forward within =
@@ -62,13 +63,24 @@ one_more first now start middle after reading goes stands told passes =
 
 -- ---- what is given, or told
 
+-- what taking it with the body that was brought answers, of each file that the cursor may read
+pub end-takes : (s now : State) (p : Placed) (body bytes : List ℕ) (item : Given) (new : State) → now ≡ s
+    → bytes ≡ body → InEachFile now p bytes (λ h. Answers h (Ok item) new)
+    → InEachFile s p body (λ h. Takes h item new)
+end-takes s now p body bytes item new same is answers =
+    subst (λ x. InEachFile x p body (λ h. Takes h item new)) same
+    (subst (λ l. InEachFile now p l (λ h. Takes h item new)) is answers)
+
 -- the item is the end of the file, as it is given
 end-item : (h : Here) (item : Given) (new : State) (takes : Takes h item new) → kind h ≡ FrEndOfFile
     → (takes.taken ≡ OtherItem (structure h))
     × ((at : ℕ) × (class : ℕ) × (size : ℕ) × (seek : ℕ) × (item ≡ given.FileEnd at class size seek))
 end-item h item new takes is =
     let other : takes.taken ≡ OtherItem (structure h) = other-taken h item new takes FrEndOfFile is refl in
-    (other, file_end-item h (structure h) item (tells-other h takes.taken item FrEndOfFile takes.tells other is))
+    (
+      other,
+      file_end-item h (structure h) item (tells-other h takes.taken item FrEndOfFile takes.tells other is),
+    )
 
 pub gives-end : (h : Here) (item : Given) (new : Cursor) (takes : Takes h item new.state) (p : Placed)
     → kind h ≡ FrEndOfFile → StandsIn h.order (place h) p new.own.items h.file
@@ -90,8 +102,8 @@ gives-end h item new takes p is stands order sound none frame looked ends =
 
 -- where the file goes on after it, the fault is that of the place after it
 pub trailing-fault : (h : Here) (item : Given) (new : State) → Takes h item new → kind h ≡ FrEndOfFile
-    → ClosesBy item new.closed → new.at < length h.file → (fault : Fault) → fault ≡ fault_at Trailing (new.at, 0)
-    → Faults h fault
+    → ClosesBy item new.closed → new.at < length h.file → (fault : Fault)
+    → fault ≡ fault_at Trailing (new.at, 0) → Faults h fault
 trailing-fault h item new takes is closes more fault told =
     let found = end-item h item new takes is in
     let closed : new.closed ≡ true = subst (λ i. ClosesBy i new.closed) found.1.4 closes in

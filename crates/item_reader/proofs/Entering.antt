@@ -37,8 +37,8 @@ use Rattle.item_reader.proofs.Giving.{gives-open}
 -- ---- what is read
 
 -- what is told of the file later on holds of it as it was told at first
-pub told-later : (first now : Outside) (start middle : Position) (P : List ℕ → Type 0) → GoesOn first now start middle
-    → Stands now middle → Told (reading_at now.slots middle.slot) (λ reading. P reading.opened)
+pub told-later : (first now : Outside) (start middle : Position) (P : List ℕ → Type 0)
+    → GoesOn first now start middle → Stands now middle → Told (reading_at now.slots middle.slot) (λ reading. P reading.opened)
     → Told (reading_at first.slots start.slot) (λ reading. P reading.opened)
 told-later first now start middle P goes stands seen = λ reading told.
     let here = at-now first now start middle reading goes stands told in
@@ -66,18 +66,19 @@ pub entry-look : (h : Here) (p : Placed) (body : List ℕ) (begun : Entry) (drew
     → drew ≤ look h.order h.file (end_from h.order h.file (place h + p.length))
     → IsWithinLook h.order h.file (place h) drew
 entry-look h p body begun drew stands is begins few =
-    let after : IsAfterEntry h.order h.file (place h) (end_from h.order h.file (place h + p.length)) = record {
+    let end : ℕ = end_from h.order h.file (place h + p.length) in
+    let after : IsAfterEntry h.order h.file (place h) end = record {
       class = class-FrSH (held h) (class h) is;
       whole = whole-here h p stands.placed;
       entry = record begun { elements = elements_from h.order h.file (end_of (structure h)) };
       described = begins h.file (place h) p stands.placed stands.body_is;
       end_is = ap (end_from h.order h.file) (sym (end-here h p stands.placed));
     } in
-    inr (end_from h.order h.file (place h + p.length), after, few)
+    inr (end, after, few)
 
 -- the same of the file that a cursor reads, where the body was brought and then the run read
-pub entry-ahead : (first now : Outside) (c : Cursor) (p : Placed) (body : List ℕ) (middle : Position) (begun : Entry)
-    (drew : ℕ) (s : State) (order : Order) → s ≡ c.state → order ≡ s.segment.order
+pub entry-ahead : (first now : Outside) (c : Cursor) (p : Placed) (body : List ℕ) (middle : Position)
+    (begun : Entry) (drew : ℕ) (s : State) (order : Order) → s ≡ c.state → order ≡ s.segment.order
     → GoesOn first now c.source middle → Stands now middle → middle.at ≡ c.state.at + p.length
     → InFile first c (λ h. StandsIn h.order h.before.place p body h.file)
     → kind_of c.state.dictionary p.class ≡ FrSH → Begins s.segment.order body begun
@@ -127,8 +128,8 @@ entry-item h item taken is tells = by (entry_from h.order h.file (structure h)) 
         )
 
 -- What taking it answers is what is given of it, where what stands after it was looked at.
-pub gives-entry : (h : Here) (old : State) (end : ℕ) (r : Result Given ReadError) (new : Cursor) → kind h ≡ FrSH
-    → old.segment.order ≡ h.order → old.segment.pending ≡ [] → old.numbering ≡ None
+pub gives-entry : (h : Here) (old : State) (end : ℕ) (r : Result Given ReadError) (new : Cursor)
+    → kind h ≡ FrSH → old.segment.order ≡ h.order → old.segment.pending ≡ [] → old.numbering ≡ None
     → IsLooked h.order h.file end new.source.at new.looked → Answers h r new.state
     → OnOk r (new.state.at ≡ end) → IfOk r (λ item. ClosesBy item new.state.closed)
     → OnOk r (old.segment.pending ≡ [] → IsKept old new.state) → OnOk r (IsOpenStill old new.state)

@@ -1,5 +1,6 @@
 -- How far a reader reads ahead, and what it knows of the structure at the place that it has reached.
-use Rattle.std.specs.Prelude.{◌≡◌, ℕ, ◌+◌, ◌≤◌, ◌⊎◌, ◌&&◌, nat_le, Bool, false, if◌then◌else◌, List, Some, None, sum_by}
+use Rattle.std.specs.Prelude.{◌≡◌, ℕ, ◌+◌, ◌≤◌, ◌⊎◌, ◌&&◌, nat_le, Bool, false, if◌then◌else◌, List, sum_by}
+use Rattle.std.specs.Prelude.{Some, None}
 use Rattle.scalar_types.specs.declared.Order.{Order}
 use Rattle.dictionary.specs.declared.entries.Entry.{Entry}
 use Rattle.structure_source.specs.declared.source.Head.TheVariants.{Whole}

@@ -18,13 +18,13 @@ use Rattle.item_reader.proofs.cursor.Cursor.take_entry.Goals as goal
 
 pub returns-in_err-bring_own-clause-answers : goal.returns-in_err-bring_own-clause-answers
 returns-in_err-bring_own-clause-answers g c =
-    refused-in (g.S.Shelf.outside c.args.shelf.now) c.args.self.now c.from_residual.result c.in_err-bring_own.field-0.0
-    c.bring_own.new.self c.from_residual.ensures.1 c.in_err-bring_own.ensures.cut
+    refused-in (g.S.Shelf.outside c.args.shelf.now) c.args.self.now c.from_residual.result
+    c.in_err-bring_own.field-0.0 c.bring_own.new.self c.from_residual.ensures.1 c.in_err-bring_own.ensures.cut
 
 pub returns-in_err-bring_own-clause-ahead : goal.returns-in_err-bring_own-clause-ahead
 returns-in_err-bring_own-clause-ahead g c =
-    err-within c.from_residual.result (g.S.Shelf.outside c.args.shelf.now) c.args.self.now c.bring_own.new.self.source
-    c.in_err-bring_own.ensures.ahead
+    err-within c.from_residual.result (g.S.Shelf.outside c.args.shelf.now) c.args.self.now
+    c.bring_own.new.self.source c.in_err-bring_own.ensures.ahead
 
 pub returns-in_err-entry-clause-answers : goal.returns-in_err-entry-clause-answers
 returns-in_err-entry-clause-answers g c =
@@ -34,8 +34,8 @@ returns-in_err-entry-clause-answers g c =
     refused-in (g.S.Shelf.outside c.args.shelf.now) c.args.self.now c.from_residual-in_err-entry.result
     c.in_err-entry.field-0.0 c.bring_own.new.self c.from_residual-in_err-entry.ensures.1
     (λ fault same. λ reading told.
-    subst (λ (x : State). InEachFile x p c.bring_own.new.self.own.items (λ h. fault_here h ≡ Some fault)) state_is
-    (c.in_err-entry.ensures.fault fault same) reading.opened (c.in_ok-bring_own.ensures.body reading told))
+    subst (λ (x : State). InEachFile x p c.bring_own.new.self.own.items (λ h. fault_here h ≡ Some fault))
+    state_is (c.in_err-entry.ensures.fault fault same) reading.opened (c.in_ok-bring_own.ensures.body reading told))
 
 pub returns-in_err-elements-clause-on : goal.returns-in_err-elements-clause-on
 returns-in_err-elements-clause-on g c =
@@ -44,8 +44,8 @@ returns-in_err-elements-clause-on g c =
 pub returns-in_err-elements-clause-ahead : goal.returns-in_err-elements-clause-ahead
 returns-in_err-elements-clause-ahead g c =
     err-said c.from_residual-in_err-elements.result _
-    (entry-ahead (g.S.Shelf.outside c.args.shelf.now) (g.S.Shelf.outside c.bring_own.new.shelf) c.args.self.now
-    c.args.head c.bring_own.new.self.own.items c.bring_own.new.self.source c.in_ok-entry.entry
+    (entry-ahead (g.S.Shelf.outside c.args.shelf.now) (g.S.Shelf.outside c.bring_own.new.shelf)
+    c.args.self.now c.args.head c.bring_own.new.self.own.items c.bring_own.new.self.source c.in_ok-entry.entry
     (drawn c.read_run.new.source) c.bring_own.new.self.state c.order-order.result
     (ap (λ (x : Cursor). x.state) c.in_ok-bring_own.ensures.rest) c.order-order.ensures
     c.in_ok-bring_own.ensures.on c.in_ok-bring_own.ensures.stands c.in_ok-bring_own.ensures.place
@@ -79,8 +79,8 @@ returns-clause-answers g c = λ reading told.
     (subst (λ order. IsRun order reading.opened middle.at run read) order_is there) in
     let answers = subst (λ (x : State). (file body : List ℕ) → StandsIn x.segment.order x.at p body file
     → first_of body_reasons (here_in x file) ≡ None → DescribesEntry x.segment.order file x.at entry run.end
-    → Answers (here_in x file) c.take_entry.result c.take_entry.new.self) state_is c.take_entry.ensures.answers
-    reading.opened body stands good
+    → Answers (here_in x file) c.take_entry.result c.take_entry.new.self) state_is
+    c.take_entry.ensures.answers reading.opened body stands good
     (describes-entry h p body c.in_ok-entry.entry run read stands begins runs) in
     gives-entry h c.bring_own.new.self.state run.end c.take_entry.result (record {
       source = c.read_run.new.source;
@@ -90,7 +90,8 @@ returns-clause-answers g c = λ reading told.
     }) is (ap (λ (x : State). x.segment.order) state_is)
     (ap (λ (x : State). x.segment.pending) state_is ∙ c.requires.passed.pending)
     (ap (λ (x : State). x.numbering) state_is ∙ c.requires.passed.frame) runs.looked answers
-    c.take_entry.ensures.moved c.take_entry.ensures.closed c.take_entry.ensures.kept c.take_entry.ensures.frame
+    c.take_entry.ensures.moved c.take_entry.ensures.closed c.take_entry.ensures.kept
+    c.take_entry.ensures.frame
 
 pub returns-clause-on : goal.returns-clause-on
 returns-clause-on g c =
@@ -99,8 +100,8 @@ returns-clause-on g c =
 pub returns-clause-ahead : goal.returns-clause-ahead
 returns-clause-ahead g c =
     err-said c.take_entry.result _
-    (entry-ahead (g.S.Shelf.outside c.args.shelf.now) (g.S.Shelf.outside c.bring_own.new.shelf) c.args.self.now
-    c.args.head c.bring_own.new.self.own.items c.bring_own.new.self.source c.in_ok-entry.entry
+    (entry-ahead (g.S.Shelf.outside c.args.shelf.now) (g.S.Shelf.outside c.bring_own.new.shelf)
+    c.args.self.now c.args.head c.bring_own.new.self.own.items c.bring_own.new.self.source c.in_ok-entry.entry
     (drawn c.read_run.new.source) c.bring_own.new.self.state c.order-order.result
     (ap (λ (x : Cursor). x.state) c.in_ok-bring_own.ensures.rest) c.order-order.ensures
     c.in_ok-bring_own.ensures.on c.in_ok-bring_own.ensures.stands c.in_ok-bring_own.ensures.place
