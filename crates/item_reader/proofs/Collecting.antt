@@ -1,12 +1,11 @@
 -- The frame that is collected: the one that is open, or the one that has just ended.
-use Rattle.std.proofs.Common.{◌≡◌, ℕ, suc, List, [], ◌∷◌, All, Option, Some, None, refl, sym, ap, ◌∙◌, subst, arith}
-use Rattle.std.specs.Prelude.{map, IsSome}
+use Rattle.std.proofs.Common.{◌≡◌, suc, List, [], ◌∷◌, All, None, refl, sym, ap, ◌∙◌, arith}
+use Rattle.std.specs.Prelude.{map}
 use Rattle.scalar_types.specs.declared.Order.{Order}
 use Rattle.dictionary.specs.declared.entries.Entry.{Entry}
 use Rattle.link_graph.specs.Collected.{Bodied}
-use Rattle.file_grammar.specs.Item.{Before}
 use Rattle.item_reader.specs.declared.state.State.{State}
-use Rattle.item_reader.specs.State.{IsSound, IsOpen, IsRecord, structure_of, bodied_of, before_of, frame_of, open_records}
+use Rattle.item_reader.specs.State.{IsSound, IsRecord, structure_of, bodied_of, before_of, frame_of, open_records}
 use Rattle.item_reader.specs.Reader.{IsFrameOf}
 
 -- a record is the one of the structure that it is

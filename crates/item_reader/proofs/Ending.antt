@@ -76,8 +76,7 @@ end-item : (h : Here) (item : Given) (new : State) (takes : Takes h item new) �
     → (takes.taken ≡ OtherItem (structure h))
     × ((at : ℕ) × (class : ℕ) × (size : ℕ) × (seek : ℕ) × (item ≡ given.FileEnd at class size seek))
 end-item h item new takes is =
-    let other : takes.taken ≡ OtherItem (structure h) = other-taken h item new takes FrEndOfFile is refl in
-    (
+    let other : takes.taken ≡ OtherItem (structure h) = other-taken h item new takes FrEndOfFile is refl in (
       other,
       file_end-item h (structure h) item (tells-other h takes.taken item FrEndOfFile takes.tells other is),
     )

@@ -1,5 +1,5 @@
 -- What taking the next item answers, from what its parts answer.
-use Rattle.std.proofs.Common.{◌≡◌, ◌+◌, ◌<◌, ◌≤◌, ℕ, Bool, true, false, List, [], length, Result, Ok, Err, Option, Some, None, inl, inr, refl, sym, ap}
+use Rattle.std.proofs.Common.{◌≡◌, ◌+◌, ◌<◌, ◌≤◌, ℕ, true, false, List, [], length, Result, Ok, Err, Option, Some, None, inl, inr, refl, sym, ap}
 use Rattle.std.proofs.Common.{◌∙◌, subst, cond, arith, ◌∷◌}
 use Rattle.std.specs.Prelude.{◌⊎◌, ◌&&◌, is_none, IsErrAnd, OnErr}
 use Rattle.file_grammar.specs.declared.fault.Fault.{Fault}

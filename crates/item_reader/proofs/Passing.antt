@@ -1,23 +1,20 @@
 -- The structure at the place reached, of which the 14 bytes were passed and then its body.
-use Rattle.std.proofs.Common.{◌≡◌, ◌↔◌, ℕ, ◌+◌, ◌-◌, ◌<◌, ◌≤◌, true, false, IsTrue, List, [], ◌++◌, length, take, drop}
-use Rattle.std.proofs.Common.{Option, Some, Err, inl, inr, refl, sym, ap, ◌∙◌, subst, arith, cond}
-use Rattle.std.specs.Prelude.{nat_le, ◌&&◌}
+use Rattle.std.proofs.Common.{◌≡◌, ℕ, ◌+◌, ◌-◌, ◌<◌, ◌≤◌, true, false, IsTrue, List, [], ◌++◌, length, take, drop}
+use Rattle.std.proofs.Common.{Option, Some, inl, inr, refl, sym, ap, ◌∙◌, subst, arith}
 use Rattle.std.proofs.lemmas.List.{drop-drop}
 use Rattle.std.proofs.lemmas.Bool.{le-leb, and_from, cond-true, cases_lt}
 use Rattle.std.proofs.lemmas.Bool.{false≢true}
-use Rattle.scalar_types.specs.declared.Order.{Order}
 use Rattle.frame_head.specs.declared.structure.Common.{Common}
-use Rattle.frame_outside.specs.Shelf.{Outside, Reading, Told, reading_at}
+use Rattle.frame_outside.specs.Shelf.{Outside, Reading, reading_at}
 use Rattle.structure_source.specs.Source.{Position, IsBounded, PassesNext, Appends, drawn}
-use Rattle.file_grammar.specs.declared.fault.Fault.{Fault}
 use Rattle.file_grammar.specs.declared.reason.Reason.TheVariants.{CutRecord}
-use Rattle.file_grammar.specs.Structure.{record_limit, common_at, structure_at}
-use Rattle.file_grammar.specs.Fault.{Here, place, left, told, judged, here, reasons, fault_at, fault_here}
+use Rattle.file_grammar.specs.Structure.{record_limit, common_at}
+use Rattle.file_grammar.specs.Fault.{Here, place, left, told, here, reasons, fault_at, fault_here}
 use Rattle.file_grammar.proofs.Lengths.{is_cut}
 use Rattle.file_grammar.proofs.Firsts.{first_of-holds}
 use Rattle.item_reader.specs.declared.cursor.Cursor.{Cursor}
 use Rattle.item_reader.specs.declared.structure.Placed.{Placed}
-use Rattle.item_reader.specs.Placed.{placed_at, IsStructureAt, IsPlaced, StandsIn, body_of}
+use Rattle.item_reader.specs.Placed.{placed_at, IsStructureAt, IsPlaced, StandsIn}
 use Rattle.item_reader.specs.Looked.{look, tells_length}
 use Rattle.item_reader.specs.State.{before_of}
 use Rattle.item_reader.specs.Cursor.{HasPassed, IsHeadOf, InFile}

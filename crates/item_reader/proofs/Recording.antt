@@ -1,42 +1,36 @@
 -- What is given of a record that joins a frame, and of one that ends it.
-use Rattle.std.proofs.Common.{◌≡◌, ◌+◌, ℕ, suc, zero, Bool, true, false, List, [], ◌∷◌, ◌++◌, length, Result, Ok, Err, Option, Some}
+use Rattle.std.proofs.Common.{◌≡◌, ℕ, true, false, List, [], ◌∷◌, ◌++◌, length, Result, Ok, Err, Some}
 use Rattle.std.proofs.Common.{None, inl, refl, sym, ap, ◌∙◌, subst}
 use Rattle.std.specs.Prelude.{map, slice_get, OnOk}
 use Rattle.std.specs.Option.{option_map_or}
 use Rattle.std.proofs.lemmas.Bool.{false≢true}
-use Rattle.scalar_types.specs.declared.Order.{Order}
-use Rattle.dictionary.specs.declared.entries.Entry.{Entry}
 use Rattle.layout_plan.specs.Plans.{plan_of}
-use Rattle.rooted_graph.specs.Rooted.{Rooted}
 use Rattle.rooted_graph.specs.BreadthOrder.{IsBreadthOrder}
 use Rattle.link_graph.specs.Collected.{Bodied, Collected, target_of}
-use Rattle.link_graph.specs.Graph.{Layouts, links_by, links_of, targets_of, graph_of}
-use Rattle.file_grammar.specs.declared.fault.Fault.{Fault}
+use Rattle.link_graph.specs.Graph.{Layouts, links_by, targets_of, graph_of}
 use Rattle.file_grammar.specs.declared.kind.Kind.{Kind}
 use Rattle.file_grammar.specs.declared.kind.Kind.TheVariants.{FrSH, FrSE, FrameH, FrEndOfFrame, FrTOC, FrEndOfFile}
 use Rattle.file_grammar.specs.declared.kind.Kind.TheVariants.{Other}
 use Rattle.file_grammar.specs.Structure.{Structure}
 use Rattle.file_grammar.specs.Kind.{is_target_kind, is_table_kind}
 use Rattle.file_grammar.specs.Record.{layout_in}
-use Rattle.file_grammar.specs.Item.{Item, OtherItem, Before, after_kind, after}
-use Rattle.file_grammar.specs.Fault.{Here, place, held, weight, kind, structure}
+use Rattle.file_grammar.specs.Item.{OtherItem, Before, after_kind, after}
+use Rattle.file_grammar.specs.Fault.{Here, place, weight, kind, structure}
 use Rattle.file_grammar.specs.Steps.{item_by}
 use Rattle.item_reader.specs.declared.cursor.Cursor.{Cursor}
 use Rattle.item_reader.specs.declared.item.Item.{Item as Given}
-use Rattle.item_reader.specs.declared.item.Item.TheVariants as given
 use Rattle.item_reader.specs.declared.item.ReadError.{ReadError}
 use Rattle.item_reader.specs.declared.item.ReadError.TheVariants as error
 use Rattle.item_reader.specs.declared.state.State.{State}
 use Rattle.item_reader.specs.declared.structure.Placed.{Placed}
 use Rattle.item_reader.specs.Placed.{StandsIn, structure_by}
 use Rattle.item_reader.specs.Looked.{IsLooked}
-use Rattle.item_reader.specs.State.{IsSound, structure_of, bodied_of, open_records, before_of, here_in}
-use Rattle.item_reader.specs.Given.{body_after}
+use Rattle.item_reader.specs.State.{IsSound, structure_of, bodied_of, open_records, before_of}
 use Rattle.item_reader.specs.Judged.{Takes, Answers, IsKept, ClosesBy, EndsFrame}
-use Rattle.item_reader.specs.Reader.{IsFrameOf, IsEndedFrame, Collects}
+use Rattle.item_reader.specs.Reader.{IsFrameOf, Collects}
 use Rattle.item_reader.specs.Cursor.{Gives, GivesNext, body_in}
 use Rattle.item_reader.proofs.BodyHere.{structure-stands}
-use Rattle.item_reader.proofs.Collecting.{frame-collected, open-nodes}
+use Rattle.item_reader.proofs.Collecting.{open-nodes}
 use Rattle.item_reader.proofs.Giving.{tells-other, record-item, frame_end-item, other-taken, body-taken, gives-open}
 
 -- what the state answers is what is given, where the item is

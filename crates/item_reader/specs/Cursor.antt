@@ -1,5 +1,5 @@
 -- Where a reader stands in its file, as the code keeps it, and what taking the next item answers.
-use Rattle.std.specs.Prelude.{◌≡◌, ℕ, ◌+◌, ◌≤◌, true, false, List, [], length, Option, Some, None, Result, Ok, Err, ⊤}
+use Rattle.std.specs.Prelude.{◌≡◌, ℕ, ◌+◌, true, false, List, [], length, Option, Some, None, Result, Ok, Err, ⊤}
 use Rattle.std.specs.Prelude.{slice_get, is_none, if◌then◌else◌}
 use Rattle.std.specs.Option.{option_map_or}
 use Rattle.frame_head.specs.declared.structure.Common.{Common}
@@ -8,9 +8,8 @@ use Rattle.link_graph.specs.Collected.{Bodied, Collected}
 use Rattle.structure_source.specs.declared.source.Head.TheVariants.{Whole}
 use Rattle.structure_source.specs.Source.{Stands, IsHead}
 use Rattle.dictionary.specs.declared.entries.Entry.{Entry}
-use Rattle.file_grammar.specs.declared.fault.Fault.{Fault}
 use Rattle.file_grammar.specs.Record.{layout_in}
-use Rattle.file_grammar.specs.Fault.{Here, fault_here}
+use Rattle.file_grammar.specs.Fault.{Here}
 use Rattle.item_reader.specs.declared.cursor.Cursor.{Cursor}
 use Rattle.item_reader.specs.declared.item.Item.{Item as Given}
 use Rattle.item_reader.specs.declared.item.Item.TheVariants as given

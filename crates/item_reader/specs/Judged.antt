@@ -1,7 +1,7 @@
 -- What the code judges of a whole structure at the place reached, part by part. Each part is a list of reasons in the
 -- order of their numbers.
-use Rattle.std.specs.Prelude.{◌≡◌, ◌≢◌, ◌↔◌, ℕ, ◌+◌, ◌≤◌, ⊤, true, false, IsTrue, Bool, ◌||◌, List, [], ◌∷◌, ◌++◌, length, take}
-use Rattle.std.specs.Prelude.{map, sum_by, Option, Some, None, Result, Ok, Err}
+use Rattle.std.specs.Prelude.{◌≡◌, ◌≢◌, ◌↔◌, ℕ, ◌+◌, ◌≤◌, ⊤, true, false, IsTrue, Bool, ◌||◌, List, [], ◌∷◌, length, take}
+use Rattle.std.specs.Prelude.{sum_by, Some, None, Result, Ok, Err}
 use Rattle.dictionary.specs.declared.entries.Entry.{Entry}
 use Rattle.dictionary.specs.Dictionary.{step}
 use Rattle.scalar_types.specs.declared.Order.{Order}
@@ -17,14 +17,13 @@ use Rattle.file_grammar.specs.declared.reason.Reason.TheVariants.{BodyShort, Bod
 use Rattle.file_grammar.specs.declared.reason.Reason.TheVariants.{NameTwice, ElementLimit, InstanceTwice, FrameHTwice}
 use Rattle.file_grammar.specs.declared.reason.Reason.TheVariants.{NoFrameH, LooseLink, OpenFrame, BadClosing, AfterTable}
 use Rattle.file_grammar.specs.declared.reason.Reason.TheVariants.{FrameCount, ByteCount, FileLimit, FramesLimit}
-use Rattle.file_grammar.specs.declared.fault.Fault.{Fault}
 use Rattle.file_grammar.specs.declared.kind.Kind.{Kind}
-use Rattle.file_grammar.specs.Structure.{record_limit, size_of, end_of, structure_at}
+use Rattle.file_grammar.specs.Structure.{size_of, end_of, structure_at}
 use Rattle.file_grammar.specs.Kind.{is_frame_kind, is_file_end_kind}
 use Rattle.file_grammar.specs.Record.{Reading, reading_by, reading_of, layout_in}
 use Rattle.file_grammar.specs.Described.{longest_run, entry_from}
 use Rattle.file_grammar.specs.Item.{Item, after as after_item}
-use Rattle.file_grammar.specs.Fault.{Here, told, held, kind, structure, weight, load, first_of, fault_here}
+use Rattle.file_grammar.specs.Fault.{Here, told, held, kind, structure, weight, first_of, fault_here}
 use Rattle.file_grammar.specs.Steps.{item_here}
 use Rattle.item_reader.specs.declared.item.Item.{Item as Given}
 use Rattle.item_reader.specs.declared.item.Item.TheVariants as given

@@ -1,5 +1,5 @@
 -- A whole structure as the code holds it: its first 14 bytes, and its body.
-use Rattle.std.specs.Prelude.{◌≡◌, ℕ, ◌+◌, ◌≤◌, nat_lt, if◌then◌else◌, slice_range, drop, List, length, Option, Some, None}
+use Rattle.std.specs.Prelude.{◌≡◌, ℕ, ◌+◌, ◌≤◌, slice_range, drop, List, length}
 use Rattle.scalar_types.specs.declared.Order.{Order}
 use Rattle.frame_head.specs.declared.structure.Common.{Common}
 use Rattle.file_grammar.specs.Structure.{Structure, record_limit, common_at, structure_at}

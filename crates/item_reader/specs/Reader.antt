@@ -1,12 +1,11 @@
 -- What callers know of a reader of items, and what its calls do.
 use Rattle.std.specs.Prelude.{◌≡◌, ℕ, ◌+◌, ◌≤◌, ◌⊎◌, true, List, [], ◌∷◌, ◌++◌, map, Option, Some, None, ⊤}
-use Rattle.std.specs.Prelude.{option_map, slice_get, length}
-use Rattle.std.specs.Option.{option_map_or}
+use Rattle.std.specs.Prelude.{option_map, length}
 use Rattle.scalar_types.specs.declared.Order.{Order}
 use Rattle.frame_outside.specs.Shelf.{Outside, Told, reading_at}
 use Rattle.layout_plan.specs.Plans.{plan_of}
 use Rattle.rooted_graph.specs.BreadthOrder.{IsBreadthOrder}
-use Rattle.link_graph.specs.Collected.{Bodied, Collected}
+use Rattle.link_graph.specs.Collected.{Collected}
 use Rattle.link_graph.specs.Graph.{Layouts, graph_of}
 use Rattle.structure_source.specs.Source.{Position, Stands, drawn}
 use Rattle.file_grammar.specs.declared.fault.Fault.{Fault}

@@ -1,10 +1,9 @@
 -- The next item, or the fault that stands there.
 use Rattle.std.proofs.Common.{◌≡◌, ◌+◌, ◌≤◌, Some, refl, sym, ap, ◌∙◌, subst, arith}
-use Rattle.structure_source.specs.declared.source.Head.TheVariants.{Whole}
-use Rattle.structure_source.specs.Source.{IsHead, drawn}
+use Rattle.structure_source.specs.Source.{drawn}
 use Rattle.structure_source.proofs.Going.{goes-more}
 use Rattle.file_grammar.specs.Item.{Before}
-use Rattle.file_grammar.specs.Fault.{Here, place, fault_here}
+use Rattle.file_grammar.specs.Fault.{fault_here}
 use Rattle.item_reader.specs.declared.cursor.Cursor.{Cursor}
 use Rattle.item_reader.specs.declared.state.State.{State}
 use Rattle.item_reader.specs.declared.structure.Placed.{Placed}

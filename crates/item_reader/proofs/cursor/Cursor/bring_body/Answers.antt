@@ -1,5 +1,5 @@
 -- The body of a record of a frame.
-use Rattle.std.proofs.Common.{◌≡◌, arith}
+use Rattle.std.proofs.Common.{arith}
 use Rattle.item_reader.proofs.Passing.{passed-look, passed-cut, passed-body}
 use Rattle.item_reader.proofs.cursor.Cursor.bring_body.Goals as goal
 

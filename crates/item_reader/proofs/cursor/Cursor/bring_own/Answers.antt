@@ -1,5 +1,5 @@
 -- A body that is no frame record's.
-use Rattle.std.proofs.Common.{◌≡◌, arith}
+use Rattle.std.proofs.Common.{arith}
 use Rattle.item_reader.proofs.Passing.{passed-look, passed-cut, passed-body}
 use Rattle.item_reader.proofs.cursor.Cursor.bring_own.Goals as goal
 

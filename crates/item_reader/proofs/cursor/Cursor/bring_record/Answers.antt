@@ -1,10 +1,10 @@
 -- The body of a record of a frame, or the fault of one that is longer than the frame may weigh.
-use Rattle.std.proofs.Common.{◌≡◌, ◌+◌, true, inl, inr, sym, ap, ◌∙◌}
+use Rattle.std.proofs.Common.{◌≡◌, ◌+◌, inl, inr, sym, ap, ◌∙◌}
 use Rattle.std.specs.Prelude.{Some}
 use Rattle.std.proofs.lemmas.Bool.{ltb-true}
 use Rattle.file_grammar.specs.Structure.{record_limit}
 use Rattle.file_grammar.specs.Kind.{is_frame_kind}
-use Rattle.file_grammar.specs.Fault.{Here, kind, fault_here}
+use Rattle.file_grammar.specs.Fault.{Here}
 use Rattle.item_reader.specs.declared.item.ReadError.TheVariants as error
 use Rattle.item_reader.specs.State.{here_in}
 use Rattle.item_reader.proofs.Located.{kind-here}

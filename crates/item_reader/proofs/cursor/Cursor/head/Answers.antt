@@ -1,5 +1,5 @@
 -- The 14 bytes at the place reached.
-use Rattle.std.proofs.Common.{◌≡◌, ◌∙◌, refl, arith}
+use Rattle.std.proofs.Common.{refl}
 use Rattle.structure_source.proofs.Going.{goes-none}
 use Rattle.item_reader.specs.State.{before_of}
 use Rattle.item_reader.proofs.cursor.Cursor.head.Goals as goal

@@ -1,8 +1,5 @@
 -- A body that is passed over.
-use Rattle.std.proofs.Common.{◌≡◌, sym, ap, ◌∙◌, subst, arith}
-use Rattle.std.specs.Prelude.{Some}
-use Rattle.structure_source.specs.Source.{PassesNext}
-use Rattle.frame_outside.specs.Shelf.{reading_at}
+use Rattle.std.proofs.Common.{arith}
 use Rattle.item_reader.proofs.Passing.{passed-look, passed-cut, passed-placed}
 use Rattle.item_reader.proofs.cursor.Cursor.pass.Goals as goal
 

@@ -1,6 +1,6 @@
 -- The end record of a frame.
-use Rattle.std.proofs.Common.{◌≡◌, ◌+◌, true, sym, ap, ◌∙◌, subst}
-use Rattle.file_grammar.specs.Fault.{Here, place, kind}
+use Rattle.std.proofs.Common.{◌≡◌, ◌+◌, sym, ap, ◌∙◌, subst}
+use Rattle.file_grammar.specs.Fault.{Here, place}
 use Rattle.item_reader.specs.declared.cursor.Cursor.{Cursor}
 use Rattle.item_reader.specs.declared.state.State.{State}
 use Rattle.item_reader.specs.Placed.{StandsIn}

@@ -1,7 +1,7 @@
 -- A record that joins the frame.
-use Rattle.std.proofs.Common.{◌≡◌, ◌+◌, true, sym, ap, ◌∙◌, subst}
+use Rattle.std.proofs.Common.{◌≡◌, ◌+◌, sym, ap, ◌∙◌, subst}
 use Rattle.file_grammar.specs.Kind.{is_target_kind}
-use Rattle.file_grammar.specs.Fault.{Here, place, kind}
+use Rattle.file_grammar.specs.Fault.{Here, place}
 use Rattle.item_reader.specs.declared.cursor.Cursor.{Cursor}
 use Rattle.item_reader.specs.declared.state.State.{State}
 use Rattle.item_reader.specs.Placed.{StandsIn}

@@ -1,10 +1,7 @@
 -- A contents table.
-use Rattle.std.proofs.Common.{◌≡◌, ◌+◌, true, Ok, None, refl, sym, ap, ◌∙◌, subst}
-use Rattle.std.specs.Prelude.{Some}
-use Rattle.frame_outside.specs.Shelf.{reading_at}
+use Rattle.std.proofs.Common.{◌≡◌, ◌+◌, Ok, None, refl, sym, ap, ◌∙◌, subst}
 use Rattle.file_grammar.specs.declared.kind.Kind.TheVariants.{FrTOC}
-use Rattle.file_grammar.specs.Item.{OtherItem}
-use Rattle.file_grammar.specs.Fault.{Here, place, kind, structure, first_of, fault_here}
+use Rattle.file_grammar.specs.Fault.{Here, place, kind, first_of}
 use Rattle.item_reader.specs.Placed.{body_of}
 use Rattle.item_reader.specs.State.{here_in}
 use Rattle.item_reader.proofs.Located.{kind-here, fault-kind}

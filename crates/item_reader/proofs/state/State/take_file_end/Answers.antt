@@ -1,4 +1,4 @@
-use Rattle.std.proofs.Common.{◌≡◌, None, refl, sym, ◌∙◌}
+use Rattle.std.proofs.Common.{◌∙◌}
 use Rattle.item_reader.specs.declared.item.ReadError.TheVariants as errors
 use Rattle.item_reader.specs.State.{here_in}
 use Rattle.item_reader.specs.Judged.{reading_reasons, closing_reasons}

@@ -1,4 +1,4 @@
-use Rattle.std.proofs.Common.{◌≡◌, ◌+◌, ◌≤◌, ◌∙◌, subst}
+use Rattle.std.proofs.Common.{◌+◌, ◌≤◌, ◌∙◌, subst}
 use Rattle.link_graph.specs.Collected.{Becomes, with_end}
 use Rattle.file_grammar.specs.Structure.{file_limit}
 use Rattle.item_reader.specs.declared.item.ReadError.TheVariants as errors
