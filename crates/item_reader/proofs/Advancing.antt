@@ -1,5 +1,6 @@
 -- What holds of the file that a cursor reads, once the cursor has gone on.
-use Rattle.std.proofs.Common.{◌≡◌, ◌<◌, ◌≤◌, ℕ, List, Result, Ok, Err, Option, Some, None, inl, inr, refl, sym, ap, ◌∙◌, subst}
+use Rattle.std.proofs.Common.{◌≡◌, ◌<◌, ◌≤◌, ℕ, List, Result, Ok, Err, Option, Some, None, inl, inr, refl, sym}
+use Rattle.std.proofs.Common.{ap, ◌∙◌, subst}
 use Rattle.std.proofs.lemmas.Bool.{cases_lt, lt-ltb, le-ltb, cond-true, cond-false}
 use Rattle.std.specs.Prelude.{option_map, nat_lt, ◌⊎◌, OnErr}
 use Rattle.frame_outside.specs.Shelf.{Outside, Reading, Told, reading_at, passed}

@@ -1,5 +1,6 @@
 -- What taking the next item answers, from what its parts answer.
-use Rattle.std.proofs.Common.{◌≡◌, ◌+◌, ◌<◌, ◌≤◌, ℕ, true, false, List, [], length, Result, Ok, Err, Option, Some, None, inl, inr, refl, sym, ap}
+use Rattle.std.proofs.Common.{◌≡◌, ◌+◌, ◌<◌, ◌≤◌, ℕ, true, false, List, [], length, Result, Ok, Err, Option}
+use Rattle.std.proofs.Common.{Some, None, inl, inr, refl, sym, ap}
 use Rattle.std.proofs.Common.{◌∙◌, subst, cond, arith, ◌∷◌}
 use Rattle.std.specs.Prelude.{◌⊎◌, ◌&&◌, is_none, IsErrAnd, OnErr}
 use Rattle.file_grammar.specs.declared.fault.Fault.{Fault}
@@ -13,7 +14,8 @@ use Rattle.file_grammar.proofs.Judging.{first_of-heavy, weight_reason-told}
 use Rattle.file_grammar.specs.Kind.{is_table_kind, is_target_kind, is_frame_kind}
 use Rattle.file_grammar.specs.Record.{layout_in}
 use Rattle.file_grammar.specs.Item.{Item, OtherItem}
-use Rattle.file_grammar.specs.Fault.{Here, place, held, told, load, weight, class, kind, structure, first_of, fault_at, fault_here}
+use Rattle.file_grammar.specs.Fault.{Here, place, held, told, load, weight, class, kind, structure, first_of}
+use Rattle.file_grammar.specs.Fault.{fault_at, fault_here}
 use Rattle.file_grammar.specs.Steps.{item_by, reasons_of}
 use Rattle.item_reader.specs.declared.cursor.Cursor.{Cursor}
 use Rattle.item_reader.specs.declared.item.Item.{Item as Given}

@@ -5,7 +5,8 @@ use Rattle.std.proofs.lemmas.Bool.{ne_eqb}
 use Rattle.item_reader.specs.declared.structure.Placed.{Placed}
 use Rattle.file_grammar.specs.Structure.{Structure, size_of, end_of, record_limit}
 use Rattle.file_grammar.specs.Kind.{kind_of}
-use Rattle.file_grammar.specs.Fault.{Here, place, left, told, held, class, kind, structure, reasons, first_of, fault_by, fault_here}
+use Rattle.file_grammar.specs.Fault.{Here, place, left, told, held, class, kind, structure, reasons, first_of}
+use Rattle.file_grammar.specs.Fault.{fault_by, fault_here}
 use Rattle.file_grammar.specs.Steps.{length_reason, reasons_of}
 use Rattle.item_reader.specs.Placed.{body_of, IsPlaced}
 use Rattle.file_grammar.proofs.Lengths.{Fits, fits-length}

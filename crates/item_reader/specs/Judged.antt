@@ -1,6 +1,7 @@
 -- What the code judges of a whole structure at the place reached, part by part. Each part is a list of reasons in the
 -- order of their numbers.
-use Rattle.std.specs.Prelude.{◌≡◌, ◌≢◌, ◌↔◌, ℕ, ◌+◌, ◌≤◌, ⊤, true, false, IsTrue, Bool, ◌||◌, List, [], ◌∷◌, length, take}
+use Rattle.std.specs.Prelude.{◌≡◌, ◌≢◌, ◌↔◌, ℕ, ◌+◌, ◌≤◌, ⊤, true, false, IsTrue, Bool, ◌||◌, List, [], ◌∷◌}
+use Rattle.std.specs.Prelude.{length, take}
 use Rattle.std.specs.Prelude.{sum_by, Some, None, Result, Ok, Err}
 use Rattle.dictionary.specs.declared.entries.Entry.{Entry}
 use Rattle.dictionary.specs.Dictionary.{step}
@@ -15,7 +16,8 @@ use Rattle.file_grammar.specs.declared.reason.Reason.{Reason}
 use Rattle.file_grammar.specs.declared.reason.Reason.TheVariants.{RecordLimit, FrameLimit, NoLayout, UnreadLayout}
 use Rattle.file_grammar.specs.declared.reason.Reason.TheVariants.{BodyShort, BodyLong, BadText, ClassRange, Redefined}
 use Rattle.file_grammar.specs.declared.reason.Reason.TheVariants.{NameTwice, ElementLimit, InstanceTwice, FrameHTwice}
-use Rattle.file_grammar.specs.declared.reason.Reason.TheVariants.{NoFrameH, LooseLink, OpenFrame, BadClosing, AfterTable}
+use Rattle.file_grammar.specs.declared.reason.Reason.TheVariants.{NoFrameH, LooseLink, OpenFrame, BadClosing}
+use Rattle.file_grammar.specs.declared.reason.Reason.TheVariants.{AfterTable}
 use Rattle.file_grammar.specs.declared.reason.Reason.TheVariants.{FrameCount, ByteCount, FileLimit, FramesLimit}
 use Rattle.file_grammar.specs.declared.kind.Kind.{Kind}
 use Rattle.file_grammar.specs.Structure.{size_of, end_of, structure_at}

@@ -1,7 +1,8 @@
 //! Where a reader stands in its file, and the next item there: the structure at the place is read as far as it is
 //! asked for, judged, and taken.
 
-ghost use Rattle.std.specs.Prelude.{◌≡◌, ◌+◌, ◌-◌, ◌<◌, ◌≤◌, ◌⊎◌, ℕ, true, false, None, Some, Err, length, IfOk, OnOk, OnErr, IsOk};
+ghost use Rattle.std.specs.Prelude.{◌≡◌, ◌+◌, ◌-◌, ◌<◌, ◌≤◌, ◌⊎◌, ℕ, true, false, None, Some, Err, length};
+ghost use Rattle.std.specs.Prelude.{IfOk, OnOk, OnErr, IsOk};
 ghost use Rattle.frame_outside.specs.Counts.{Rose};
 ghost use Rattle.structure_source.specs.declared.source.Head.TheVariants as head;
 ghost use Rattle.structure_source.specs.Source.{Stands, GoesOn, IsHead, drawn};

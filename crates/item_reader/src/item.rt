@@ -5,10 +5,12 @@ use frame_outside::{Failed, ShelfError};
 use std::alloc::AllocError;
 use thiserror::Error;
 
-/// An item of a file: a dictionary entry, or any other structure. `at` is its place in bytes from the beginning of the file.
+/// An item of a file: a dictionary entry, or any other structure. `at` is its place in bytes from
+/// the beginning of the file.
 #[derive(Clone, Copy, Debug, PartialEq, Eq)]
 pub enum Item {
-    /// An FrSH with the run of FrSEs after it. `changed` tells whether the dictionary changed: it holds the entry now, and did
+    /// An FrSH with the run of FrSEs after it. `changed` tells whether the dictionary changed: it
+    /// holds the entry now, and did
     /// not hold its class before.
     Entry {
         at: u64,

@@ -3,7 +3,8 @@
 //! Nothing here reads the file. What is said holds of every file in which this structure, with this body, stands at
 //! the place.
 
-ghost use Rattle.std.specs.Prelude.{◌≡◌, ◌+◌, ◌^◌, ◌≤◌, ◌<◌, ◌||◌, ℕ, List, [], None, Some, true, false, not, nat_lt, codes};
+ghost use Rattle.std.specs.Prelude.{◌≡◌, ◌+◌, ◌^◌, ◌≤◌, ◌<◌, ◌||◌, ℕ, List, [], None, Some, true, false, not};
+ghost use Rattle.std.specs.Prelude.{nat_lt, codes};
 ghost use Rattle.std.specs.Prelude.{length, IfOk, IfErr, IfSome, OnOk, IsSome};
 ghost use Rattle.std.specs.Option.{option_map_or};
 ghost use Rattle.dictionary.specs.Dictionary.{entry_of, IsDictionary};
@@ -13,7 +14,8 @@ ghost use Rattle.file_grammar.specs.Structure.{record_limit, file_limit};
 ghost use Rattle.file_grammar.specs.Kind.{kind_of, is_frame_kind, is_table_kind};
 ghost use Rattle.file_grammar.specs.Record.{layout_in, reading_of, reading_by};
 ghost use Rattle.file_grammar.specs.Closing.{closes, has_named, is_count, field_named};
-ghost use Rattle.file_grammar.specs.Fault.{is_empty, fields, elements, number, place, told, fault_at, first_of, fault_here};
+ghost use Rattle.file_grammar.specs.Fault.{is_empty, fields, elements, number, place, told, fault_at, first_of};
+ghost use Rattle.file_grammar.specs.Fault.{fault_here};
 ghost use Rattle.file_grammar.specs.Steps.{reason_of};
 ghost use Rattle.item_reader.specs.Placed.{IsStructureAt, structure_by};
 ghost use Rattle.item_reader.specs.State.{IsSound, frame_of};

@@ -1,6 +1,7 @@
 //! Items taken one after another: each is judged, and then stands before the next place.
 
-ghost use Rattle.std.specs.Prelude.{◌≡◌, ◌≢◌, ◌+◌, ◌≤◌, ℕ, List, [], false, true, length, max, IfOk, OnOk, Ok, Err, None, Some};
+ghost use Rattle.std.specs.Prelude.{◌≡◌, ◌≢◌, ◌+◌, ◌≤◌, ℕ, List, [], false, true, length, max, IfOk, OnOk, Ok};
+ghost use Rattle.std.specs.Prelude.{Err, None, Some};
 ghost use Rattle.std.specs.Option.{option_copied, option_map_or};
 ghost use Rattle.dictionary.specs.Dictionary.{entry_of, IsDictionary};
 ghost use Rattle.dictionary.specs.Same.{AreRead};
