@@ -6,7 +6,7 @@ use Rattle.std.specs.Prelude.{slice_get, option_and_then}
 use Rattle.std.specs.Option.{option_map_or}
 use Rattle.std.proofs.lemmas.List.{length-map, length-take-le, get_or-take, get_or-map, at_drop_more}
 use Rattle.std.proofs.lemmas.List.Elements.{All-cons, All-tail}
-use Rattle.std.proofs.Math.Nat.{mul_assoc, mul_comm}
+use Rattle.std.proofs.Math.Nat.{mul_assoc, mul_comm, zero-mul}
 use Rattle.scalar_types.specs.declared.Order.{Order}
 use Rattle.scalar_types.specs.declared.Width.{Width}
 use Rattle.scalar_types.specs.Number.{size_of}
@@ -310,6 +310,11 @@ pub product-one : {X : Type 0} (f : X → ℕ) (xs : List X) (d : X) → length 
 product-one f [] d one = absurd (omega (arith, one))
 product-one f (x ∷ []) d one = omega arith
 product-one f (x ∷ y ∷ xs) d one = absurd (omega (arith, one))
+
+-- a product that is 0 so far is 0
+pub capped-none : (count others whole cap : ℕ) → count ≡ 0 → min (count * others) cap ≡ min whole cap
+    → 0 ≡ min whole cap
+capped-none count others whole cap is same = omega (arith, ap (λ n. n * others) is, zero-mul others, same)
 
 -- one more factor of a product that is capped
 pub product-more : {X : Type 0} (f : X → ℕ) (xs : List X) (i : ℕ) (d : X) (count extent next cap : ℕ) → i < length xs

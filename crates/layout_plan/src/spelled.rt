@@ -25,6 +25,9 @@ pub fn capped_count(counts: &[Count], numbers: &[u64], cap: usize) -> usize
 {
     let mut count = cap.min(1);
     for each in counts {
+        if count == 0 {
+            return 0;
+        }
         count = capped_product(count, extent(*each, numbers), cap);
     }
     count

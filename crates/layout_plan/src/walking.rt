@@ -174,6 +174,9 @@ fn product_at(
 {
     let mut count = factor;
     for counter in counters {
+        if count == 0 {
+            return 0;
+        }
         count = capped_product(count, extent_at(order, body, ends, counter), usize::MAX);
     }
     count

@@ -1,8 +1,8 @@
-use Rattle.std.proofs.Common.{◌≡◌, ◌∙◌, ◌*◌, ◌-◌, ◌^◌, min, ap, arith}
+use Rattle.std.proofs.Common.{◌≡◌, ◌∙◌, ◌*◌, ◌-◌, ◌^◌, min, drop, ap, arith}
 use Rattle.std.proofs.lemmas.List.{drop_all}
 use Rattle.layout_plan.specs.Marks.{product_by}
 use Rattle.layout_plan.specs.Steps.{counter_value}
-use Rattle.layout_plan.proofs.StepLemmas.{product-more}
+use Rattle.layout_plan.proofs.StepLemmas.{product-more, capped-none}
 use Rattle.layout_plan.proofs.walking.product_at.Goals as goal
 
 pub extent_at-requires : goal.extent_at-requires
@@ -16,6 +16,12 @@ loop-counter-preserved c = record {
       ∙ c.loop-counter.invariant.product;
   capped = omega (arith, c.capped_product-count.ensures);
 }
+
+pub returns-then-count-eq0 : goal.returns-then-count-eq0
+returns-then-count-eq0 c =
+    let value = product_by (counter_value c.args.order c.args.body.now c.args.ends.now) in
+    capped-none c.loop-counter.count (value (drop c.loop-counter.counter-index c.args.counters.now))
+    (c.args.factor * value c.args.counters.now) (2 ^ 64 - 1) c.if-count-eq0.true c.loop-counter.invariant.product
 
 pub returns : goal.returns
 returns c =
