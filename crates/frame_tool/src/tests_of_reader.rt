@@ -5,6 +5,7 @@ use crate::check::check_file;
 use crate::judgement::Finding;
 use crate::pieces::Piece::{Bytes, Full, Times};
 use crate::pieces::{Piece, Row, check_rows, joined};
+use crate::worked_files::ONE_FRAME;
 use file_grammar::{Fault, Reason};
 use frame_outside::{MemShelf, Shelf};
 use item_reader::{Item, ItemReader, ReadError};
@@ -145,6 +146,66 @@ fn reads_no_further_than_the_look(rt: HostRuntime) -> Result<(), Fail> {
             Finding::Refused(fault)
         );
         assert!(rt; shelf.taken().saturating_sub(taken) <= look, "{reason:?}");
+    }
+    Ok(())
+}
+
+/// After each item of the file of one frame: the place reached, the length of the body lent, the records
+/// collected, and those in breadth-first order.
+const LENT: [(u64, usize, u32, usize); 20] = [
+    (569, 0, 0, 0),
+    (640, 57, 1, 0),
+    (809, 0, 1, 0),
+    (839, 16, 2, 0),
+    (1129, 0, 2, 0),
+    (1180, 37, 3, 0),
+    (1485, 0, 3, 0),
+    (1534, 35, 4, 0),
+    (2137, 0, 4, 0),
+    (2227, 76, 5, 0),
+    (2276, 35, 6, 0),
+    (2366, 76, 7, 0),
+    (2415, 35, 8, 0),
+    (2505, 76, 9, 0),
+    (2656, 0, 9, 0),
+    (2682, 12, 9, 9),
+    (3313, 0, 0, 0),
+    (3404, 77, 0, 0),
+    (3599, 0, 0, 0),
+    (3637, 24, 0, 0),
+];
+
+/// The first of the rows that is not as the reader lends it.
+fn first_other<S: Shelf>(alloc: Global, shelf: &mut S) -> Result<Option<usize>, ReadError> {
+    let slot = shelf.source(alloc, "f")?;
+    let mut reader = ItemReader::begin(alloc, shelf, slot)?;
+    for (i, row) in LENT.iter().enumerate() {
+        reader.next(shelf)?;
+        let ordered = match reader.numbering() {
+            Some(numbering) => numbering.sequence().len(),
+            None => 0,
+        };
+        let lent = (
+            reader.place(),
+            reader.body().len(),
+            reader.segment().len(),
+            ordered,
+        );
+        if lent != *row {
+            return Ok(Some(i));
+        }
+    }
+    Ok(None)
+}
+
+#[test]
+fn lends_what_was_read(rt: HostRuntime) -> Result<(), Fail> {
+    let alloc = rt.alloc();
+    for most in [1, 7, usize::MAX] {
+        let mut shelf = MemShelf::new(alloc);
+        shelf.with_file("f", ONE_FRAME)?;
+        shelf.largest(most);
+        assert_eq!(rt; first_other(alloc, &mut shelf)?, None, "most {most}");
     }
     Ok(())
 }
