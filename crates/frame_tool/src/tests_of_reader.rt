@@ -204,6 +204,7 @@ fn lends_what_was_read(rt: HostRuntime) -> Result<(), Fail> {
     for most in [1, 7, usize::MAX] {
         let mut shelf = MemShelf::new(alloc);
         shelf.with_file("f", ONE_FRAME)?;
+        assert!(rt; 0 < most);
         shelf.largest(most);
         assert_eq!(rt; first_other(alloc, &mut shelf)?, None, "most {most}");
     }
