@@ -39,13 +39,6 @@ pub some-reading : (o : Option Reading) → IsSome o → (reading : Reading) × 
 some-reading None e = absurd (false≢true e)
 some-reading (Some reading) e = (reading, refl)
 
--- a body that reads as it is told reads here
-pub reads-stands : (h : Here) (p : Placed) (body : List ℕ) → StandsHere h p body
-    → IsSome (reading_of h.order (held h) (structure_by p body)) → ReadsHere h
-reads-stands h p body stands reads =
-    some-reading (reading_of h.order (held h) (structure h))
-    (ap (λ s. is_some (reading_of h.order (held h) s)) (structure-stands h p body stands) ∙ reads)
-
 -- a body that spells the layout of its class reads
 pub spelled-reads : (order : Order) (held : List Entry) (p : Placed) (body : List ℕ) (fs : List Field)
     → layout_in held p.class ≡ Some fs → HasBody order fs body

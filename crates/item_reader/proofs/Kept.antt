@@ -35,7 +35,8 @@ use Rattle.file_grammar.proofs.Tests.{test-BadClosing}
 use Rattle.item_reader.specs.declared.state.State.{State}
 use Rattle.item_reader.specs.declared.structure.Placed.{Placed}
 use Rattle.item_reader.specs.Placed.{IsStructureAt, IsPlaced, structure_by}
-use Rattle.item_reader.specs.State.{structure_of, root_named, here_in, IsRecord, IsOpen, IsSound}
+use Rattle.item_reader.specs.Roles.{root_named}
+use Rattle.item_reader.specs.State.{structure_of, here_in, IsRecord, IsOpen, IsSound}
 use Rattle.item_reader.specs.State.{HasNoFrame}
 use Rattle.item_reader.specs.Judged.{InEachFile, closing_reasons, later_record_reasons, frame_end_reasons}
 use Rattle.item_reader.specs.Judged.{Holds}

@@ -9,6 +9,7 @@ pub mod Ahead
 pub mod Growing
 pub mod HeaderRead
 pub mod Holding
+pub mod RolesKept
 pub mod Kept
 pub mod LentBody
 pub mod Located

@@ -192,15 +192,6 @@ measured-read h fs links zero_texts size is m =
       weight_is = omega (arith, size, told_is);
     }
 
--- one that reads is spelled by the layout
-pub read-spelled : (h : Here) (fs : List Field) (zero_texts : ℕ) → fields h ≡ Some fs → IsReadBy h fs zero_texts
-    → HasBody h.order fs (structure h).body
-read-spelled h fs zero_texts is by = (
-  by.reading.values,
-  by.reading.tail,
-  reading-found h.order (structure h).body fs by.reading (fields-sound h fs is) by.reads,
-)
-
 -- a body that reads has no fault
 pub reads-unfaulted : (h : Here) → is_read_kind (kind h) ≡ true → ReadsHere h → first_of reading_reasons h ≡ None
 reads-unfaulted h read reads =

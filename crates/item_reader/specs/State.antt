@@ -1,16 +1,10 @@
 -- What the code keeps of what stands before a place.
 use Rattle.std.specs.Prelude.{◌≡◌, ℕ, ◌+◌, ◌*◌, ◌≤◌, false, List, [], map, length, All, Option, None, Some, IsSome}
-use Rattle.std.specs.Prelude.{if◌then◌else◌, codes}
-use Rattle.std.specs.Option.{option_map_or}
-use Rattle.std.specs.Str.{bytes_eq}
 use Rattle.scalar_types.specs.declared.Order.{Order}
 use Rattle.dictionary.specs.declared.entries.Entry.{Entry}
-use Rattle.dictionary.specs.Dictionary.{entry_of}
 use Rattle.layout_plan.specs.Plans.{plan_of}
 use Rattle.layout_plan.specs.BuiltIn.{structure_fields, element_fields}
 use Rattle.link_graph.specs.declared.nodes.Node.{Node}
-use Rattle.link_graph.specs.declared.nodes.Root.{Root}
-use Rattle.link_graph.specs.declared.nodes.Root.TheVariants as root
 use Rattle.link_graph.specs.Collected.{Bodied, Collected}
 use Rattle.file_grammar.specs.Structure.{Structure, record_limit, file_limit}
 use Rattle.file_grammar.specs.Record.{layout_in, reading_of}
@@ -18,22 +12,13 @@ use Rattle.file_grammar.specs.Item.{Before}
 use Rattle.file_grammar.specs.MayStand.{frames_limit}
 use Rattle.file_grammar.specs.Fault.{Here, has_header}
 use Rattle.item_reader.specs.declared.state.State.{State}
+use Rattle.item_reader.specs.Roles.{root_of}
 
 -- ---- the records of a frame as a segment has them
 
 -- a record of a segment as the structure that it is
 abbrev pub structure_of : Bodied → Structure
 structure_of r = record { at = r.node.at; class = r.node.class; instance = r.node.instance; body = r.body }
-
--- the root that a record of a structure name is
-abbrev pub root_named : List ℕ → Root
-root_named name =
-    if bytes_eq name (codes "FrameH") then root.Head
-    else (if bytes_eq name (codes "FrStatData") then root.Stat else root.No)
-
--- the root that a record of a class is
-abbrev pub root_of : List Entry → ℕ → Root
-root_of held class = option_map_or (λ e. root_named e.name) (entry_of held class) root.No
 
 -- the node of a structure
 abbrev pub node_of : List Entry → Structure → Node

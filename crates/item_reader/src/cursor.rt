@@ -24,7 +24,7 @@ use crate::looked::Looked;
 use crate::state::State;
 use crate::structure::{Placed, placed_at};
 use dictionary::Entry;
-use file_grammar::{Fault, Kind, Reason, kind_of, size_reason};
+use file_grammar::{Fault, Kind, Reason, size_reason};
 use frame_head::{Common, HEAD_SIZE};
 use frame_outside::Shelf;
 use structure_source::{Head, StructureSource};
@@ -81,7 +81,7 @@ impl Cursor {
         ensures ahead { OnErr result (InFile (S.outside shelf.old) self.old
             (λ h. IsWithinLook h.order h.file h.before.place (drawn self.new.source))) }
     {
-        match kind_of(&self.state.dictionary, placed.class) {
+        match self.state.dictionary.kind(placed.class) {
             Kind::FrSH => self.take_entry(shelf, placed),
             Kind::FrSE => self.refuse_element(shelf, placed),
             Kind::FrTOC => self.take_table(shelf, placed),

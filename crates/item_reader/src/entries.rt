@@ -22,7 +22,7 @@ use crate::item::ReadError;
 use crate::looked::Looked;
 use crate::rules::reason_of;
 use dictionary::{Element, ElementList, Entry};
-use file_grammar::{FILE_LIMIT, Fault, RECORD_LIMIT, Reason};
+use file_grammar::{FILE_LIMIT, Fault, Reason, size_reason};
 use frame_head::{Common, HEAD_SIZE};
 use frame_outside::Shelf;
 use layout_plan::{Plan, measure, num_at, text_at};
@@ -149,8 +149,7 @@ fn may_be_element(at: u64, common: Common) -> bool
     ensures { result ≡ may_be_element at common }
 {
     common.class == ELEMENT_CLASS
-        && common.length >= HEAD_SIZE as u64
-        && common.length <= RECORD_LIMIT
+        && size_reason(common.length).is_none()
         && at + common.length <= FILE_LIMIT
 }
 

@@ -206,7 +206,7 @@ impl ItemReader {
     pub fn dictionary(&self) -> &Dictionary
         ensures { result.now ≡ self.now.before.dictionary }
     {
-        &self.cursor.state.dictionary
+        self.cursor.state.dictionary.dictionary()
     }
 
     /// The plans of the dictionary's entries: a class has one where it is held and its layout is readable.

@@ -6,7 +6,7 @@ ghost use Rattle.link_graph.specs.Collected.{nothing_in};
 ghost use Rattle.file_grammar.specs.Item.{nothing_yet};
 ghost use Rattle.item_reader.specs.State.{IsSound, before_of};
 
-use dictionary::Dictionary;
+use crate::roles::Classes;
 use layout_plan::{Plan, Plans, element_plan, structure_plan};
 use link_graph::{Numbering, Segment};
 use scalar_types::Order;
@@ -24,7 +24,7 @@ pub struct BuiltIn {
 pub struct State {
     /// The place, in bytes from the beginning of the file.
     pub at: u64,
-    pub dictionary: Dictionary,
+    pub dictionary: Classes,
     /// The plans of the dictionary's entries.
     pub plans: Plans,
     pub built_in: BuiltIn,
@@ -56,7 +56,7 @@ impl State {
     {
         Ok(State {
             at: frame_head::HEADER_SIZE as u64,
-            dictionary: Dictionary::new(alloc),
+            dictionary: Classes::new(alloc),
             plans: Plans::new(alloc),
             built_in: BuiltIn {
                 structure: structure_plan(alloc)?,

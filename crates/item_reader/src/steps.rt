@@ -17,10 +17,10 @@ ghost use Rattle.item_reader.specs.Judged.{DescribesEntry, body_reasons, table_r
 ghost use Rattle.item_reader.specs.Judged.{ClosesBy, node_by};
 
 use crate::item::{Item, ReadError};
-use crate::roles::root_of;
+use crate::roles::Classes;
 use crate::state::State;
 use crate::structure::Placed;
-use dictionary::{AddFault, Dictionary, Entry};
+use dictionary::{AddFault, Entry};
 use file_grammar::{Kind, Reason};
 use link_graph::{Node, SegmentFault};
 use std::alloc::Global;
@@ -235,19 +235,19 @@ impl State {
 }
 
 /// The node of a record.
-fn node(dictionary: &Dictionary, placed: Placed) -> Node
+fn node(dictionary: &Classes, placed: Placed) -> Node
     ensures { result ≡ node_by dictionary.now placed }
 {
     Node {
         at: placed.at,
         class: placed.class,
         instance: placed.instance,
-        root: root_of(dictionary, placed.class),
+        root: dictionary.root(placed.class),
     }
 }
 
 /// The entry held of a class.
-fn held(dictionary: &Dictionary, class: u16) -> Option<&Entry>
+fn held(dictionary: &Classes, class: u16) -> Option<&Entry>
     ensures found { class ≤ 255 → option_copied result ≡ entry_of dictionary.now class }
     ensures sound { class ≤ 255 → IsDictionary dictionary.now }
 {
