@@ -124,6 +124,7 @@ impl Cursor {
     }
 
     /// Takes an FrSH with its run of FrSEs.
+    #[inline(never)]
     fn take_entry<S: Shelf>(&mut self, shelf: &mut S, head: Placed) -> Result<Item, ReadError>
         requires passed { HasPassed (S.outside shelf.old) self.old head }
         requires kind { kind_of self.old.state.dictionary head.class ≡ variant.FrSH }
@@ -183,6 +184,7 @@ impl Cursor {
     }
 
     /// Answers the fault of an FrSE that is in no entry's run.
+    #[inline(never)]
     fn refuse_element<S: Shelf>(
         &mut self,
         shelf: &mut S,
@@ -205,6 +207,7 @@ impl Cursor {
     }
 
     /// Takes a contents table. Its body is kept where its layout is readable, and never judged.
+    #[inline(never)]
     fn take_table<S: Shelf>(&mut self, shelf: &mut S, table: Placed) -> Result<Item, ReadError>
         requires passed { HasPassed (S.outside shelf.old) self.old table }
         requires kind { kind_of self.old.state.dictionary table.class ≡ variant.FrTOC }
@@ -229,6 +232,7 @@ impl Cursor {
     }
 
     /// Takes the end of the file, where no byte stands after it.
+    #[inline(never)]
     fn take_file_end<S: Shelf>(&mut self, shelf: &mut S, end: Placed) -> Result<Item, ReadError>
         requires passed { HasPassed (S.outside shelf.old) self.old end }
         requires kind { kind_of self.old.state.dictionary end.class ≡ variant.FrEndOfFile }
@@ -254,6 +258,7 @@ impl Cursor {
     }
 
     /// Takes the end record of a frame.
+    #[inline(never)]
     fn take_frame_end<S: Shelf>(&mut self, shelf: &mut S, placed: Placed) -> Result<Item, ReadError>
         requires passed { HasPassed (S.outside shelf.old) self.old placed }
         requires kind { kind_of self.old.state.dictionary placed.class ≡ variant.FrEndOfFrame }
@@ -276,6 +281,7 @@ impl Cursor {
     }
 
     /// Takes any other record of a frame.
+    #[inline(always)]
     fn take_record<S: Shelf>(
         &mut self,
         shelf: &mut S,
@@ -303,6 +309,7 @@ impl Cursor {
     }
 
     /// Brings the body of a record of a frame. One that is longer than the frame may weigh is passed over.
+    #[inline(always)]
     fn bring_record<S: Shelf>(&mut self, shelf: &mut S, placed: Placed) -> Result<(), ReadError>
         requires passed { HasPassed (S.outside shelf.old) self.old placed }
         requires kind { is_frame_kind (kind_of self.old.state.dictionary placed.class) ≡ true }
@@ -336,6 +343,7 @@ impl Cursor {
     }
 
     /// Brings the body of a record into the segment.
+    #[inline(always)]
     fn bring_body<S: Shelf>(&mut self, shelf: &mut S, placed: Placed) -> Result<(), ReadError>
         requires passed { HasPassed (S.outside shelf.old) self.old placed }
         requires fits { self.old.state.load + placed.length ≤ record_limit }

@@ -41,6 +41,7 @@ impl State {
     }
 
     /// The weight of a record whose body is pending, where it may stand here by its body and its weight.
+    #[inline(always)]
     pub fn weigh(&self, placed: Placed) -> Result<u64, Fault>
         requires sound { IsSound self.now }
         requires here { IsStructureAt self.now.at placed }
@@ -159,6 +160,7 @@ impl State {
     }
 
     /// What is measured of a body that reads by the layout of its class.
+    #[inline(always)]
     pub fn read(&self, structure: Placed, body: &[u8]) -> Result<Measured, Fault>
         requires sound { IsSound self.now }
         requires here { IsStructureAt self.now.at structure }

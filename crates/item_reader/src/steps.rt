@@ -191,6 +191,7 @@ impl State {
     }
 
     /// Takes any other record of a frame, whose body is pending.
+    #[inline(always)]
     pub fn take_record(&mut self, placed: Placed, kind: Kind) -> Result<Item, ReadError>
         requires sound { IsSound self.old }
         requires open { self.old.closed ≡ false }
