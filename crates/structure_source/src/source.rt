@@ -89,6 +89,7 @@ impl StructureSource {
 
     /// Fills `into` as far as there are bytes, and answers how many: fewer than it has room for only at the
     /// end of the file. Nothing is said of the rest of `into`, and after `Failed` nothing of it at all.
+    #[inline(always)]
     pub fn fill<S: Shelf>(&mut self, shelf: &mut S, into: &mut [u8]) -> Result<usize, Failed>
         requires stands { Stands (S.outside shelf.old) self.old }
         requires low { self.old.at + length into.old < 2 ^ 64 }
@@ -104,6 +105,9 @@ impl StructureSource {
         ensures bounded { IsBounded self.old (length into.old) self.new }
         ensures failed { OnErr result (Rose (S.outside shelf.old).faults (S.outside shelf.new).faults) }
     {
+        if into.len() <= self.reader.ahead().len() {
+            return Ok(self.give(into));
+        }
         let mut filled = 0;
         while filled < into.len() {
             let count = self.ready(shelf, into.len() - filled)?;
@@ -123,6 +127,7 @@ impl StructureSource {
     /// file.
     ///
     /// What the segment was given and n more are at most 4,294,967,295 bytes.
+    #[inline(always)]
     pub fn bring_body<S: Shelf>(
         &mut self,
         shelf: &mut S,
@@ -249,6 +254,25 @@ impl StructureSource {
             return Ok(0);
         }
         Ok(self.reader.ahead().len().min(most))
+    }
+
+    /// Fills `into` with bytes that are ahead, and answers how many.
+    #[inline(always)]
+    fn give(&mut self, into: &mut [u8]) -> usize
+        requires ahead { length into.old ≤ length self.old.ahead }
+        requires low { self.old.at + length into.old < 2 ^ 64 }
+        ensures count { result ≡ length into.old }
+        ensures filled { into.new ≡ take (length into.old) self.old.ahead }
+        ensures passed { self.new ≡ record {
+          slot = self.old.slot;
+          ahead = drop (length into.old) self.old.ahead;
+          at = self.old.at + length into.old;
+        } }
+    {
+        let count = into.len();
+        into.copy_from_slice(&self.reader.ahead()[..count]);
+        self.pass(count);
+        count
     }
 
     /// Passes over bytes that are ahead.

@@ -1,11 +1,21 @@
 -- Each step by the lemma of its name on n bytes that are passed in pieces.
-use Rattle.std.proofs.Common.{◌≡◌, ℕ, ◌+◌, ◌-◌, ◌<◌, ◌≤◌, length, take, ap, ◌∙◌, refl, arith, length-take}
+use Rattle.std.proofs.Common.{◌≡◌, ℕ, ◌+◌, ◌-◌, ◌<◌, ◌≤◌, length, take, ap, ◌∙◌, refl, arith, rules, length-take}
 use Rattle.std.proofs.lemmas.Grind.{common_steps}
 use borrow.Rule.Slice.PartMut.{put_mid}
-use Rattle.structure_source.specs.Source.{Position}
+use Rattle.frame_outside.specs.Shelf.{Outside}
+use Rattle.structure_source.specs.Source.{Position, Stands}
+use Rattle.structure_source.proofs.Going.{Underway, after_passing}
 use Rattle.structure_source.proofs.Going.{goes-more, underway-none, underway-ready, underway-passed}
 use Rattle.structure_source.proofs.Going.{underway-same, passes-short, filled-more}
 use Rattle.structure_source.proofs.source.StructureSource.fill.Goals as goal
+
+-- all of it from the bytes that were ahead
+given-ahead : (outside : Outside) (before after : Position) (n : ℕ) → Stands outside before
+    → n ≤ length before.ahead → after ≡ after_passing n before
+    → Underway outside outside before after n (n - n)
+given-ahead outside before after n stands within passed =
+    underway-passed outside outside before before after n n n (underway-none outside before n n refl stands)
+    within (omega arith) passed
 
 pub loop-filled-init : goal.loop-filled-init
 loop-filled-init g c = record {
@@ -14,6 +24,16 @@ loop-filled-init g c = record {
       c.requires.stands;
   filled = λ _ _. refl;
 }
+
+pub returns-then-into-ahead-clause-stands : goal.returns-then-into-ahead-clause-stands
+returns-then-into-ahead-clause-stands g c =
+    (given-ahead (g.S.Shelf.outside c.args.shelf.now) c.args.self.now c.give.new.self (length c.args.into.now)
+    c.requires.stands (search rules) c.give.ensures.passed).stands
+
+pub returns-then-into-ahead-clause-on : goal.returns-then-into-ahead-clause-on
+returns-then-into-ahead-clause-on g c =
+    (given-ahead (g.S.Shelf.outside c.args.shelf.now) c.args.self.now c.give.new.self (length c.args.into.now)
+    c.requires.stands (search rules) c.give.ensures.passed).goes
 
 pub returns-in_err-count-clause-on : goal.returns-in_err-count-clause-on
 returns-in_err-count-clause-on g c = goes-more _ _ _ _ _ _ c.loop-filled.invariant.way.goes
@@ -53,8 +73,8 @@ loop-filled-preserved g c =
     c.in_ok-count.ensures.bounded in
     let within : count ≤ length c.ready.new.self.ahead = omega (arith, c.in_ok-count.ensures.count) in
     let few : count ≤ left = omega (arith, c.in_ok-count.ensures.count) in
-    let seen : c.ahead.result.now ≡ c.ready.new.self.ahead =
-    c.ahead.ensures ∙ ap (λ (p : Position). p.ahead) c.self.view_is in
+    let seen : c.ahead-in-loop-filled.result.now ≡ c.ready.new.self.ahead =
+    c.ahead-in-loop-filled.ensures ∙ ap (λ (p : Position). p.ahead) c.self-in-loop-filled.view_is in
     let written : c.copy_from_slice.new.self ≡ take count c.ready.new.self.ahead =
     c.copy_from_slice.ensures.after ∙ grind (arith, common_steps, seen) in
     let size : length c.copy_from_slice.new.self ≡ count =
