@@ -10,7 +10,6 @@ use Rattle.file_grammar.specs.Record.{Reading, reading_by, reading_of, layout_in
 use Rattle.file_grammar.specs.Fault.{Here, place, told, held, structure}
 use Rattle.item_reader.specs.declared.structure.Placed.{Placed}
 use Rattle.item_reader.specs.Placed.{StandsIn, structure_by}
-use Rattle.item_reader.specs.Judged.{ReadsHere}
 use Rattle.item_reader.proofs.Located.{body-here, told-here}
 use Rattle.file_grammar.proofs.Bodies.{reading-again}
 use Rattle.file_grammar.proofs.Weights.{layout-sound}

@@ -9,7 +9,7 @@ use Rattle.std.proofs.lemmas.Option.{same_Some, none-some, option_and_then_some}
 use Rattle.dictionary.specs.declared.entries.Entry.{Entry}
 use Rattle.dictionary.specs.Dictionary.{entry_of}
 use Rattle.layout_plan.specs.declared.fields.Field.{Field}
-use Rattle.layout_plan.specs.Body.{values_length, HasBody, IsMeasured}
+use Rattle.layout_plan.specs.Body.{values_length, IsMeasured}
 use Rattle.layout_plan.specs.Layout.{AreSound, layout_of}
 use Rattle.layout_plan.specs.Reading.{fault_of}
 use Rattle.layout_plan.specs.BuiltIn.{structure_fields, element_fields}
@@ -40,7 +40,7 @@ use Rattle.file_grammar.proofs.Lengths.{Fits}
 use Rattle.file_grammar.proofs.Tests.{test-InstanceTwice, test-FrameCount, test-ByteCount}
 use Rattle.file_grammar.proofs.Applying.{applies, unapplied}
 use Rattle.file_grammar.proofs.Weights.{layout-sound}
-use Rattle.file_grammar.proofs.Bodies.{reading-found, reading-again, no_fault-reading, structure_fields-sound}
+use Rattle.file_grammar.proofs.Bodies.{reading-again, no_fault-reading, structure_fields-sound}
 use Rattle.file_grammar.proofs.Bodies.{element_fields-sound}
 use Rattle.file_grammar.proofs.Judging.{first_of-good_body, first_of-unread_weight}
 

@@ -1,6 +1,7 @@
 -- The roles beside a dictionary: at the beginning, and after an entry.
-use Rattle.std.proofs.Common.{◌≡◌, ℕ, ◌<◌, ◌≤◌, Bool, true, false, cond, List, [], ◌∷◌, ◌++◌, length, get_or, set}
-use Rattle.std.proofs.Common.{Option, Some, None, Result, Ok, Err, IfErr, IfOk, OnOk, inl, inr, refl, sym, ap, ◌∙◌, arith}
+use Rattle.std.proofs.Common.{◌≡◌, ℕ, ◌<◌, Bool, true, false, cond, List, [], ◌∷◌, ◌++◌, length, get_or, set}
+use Rattle.std.proofs.Common.{Option, Some, None, Result, Ok, Err, IfErr, IfOk, OnOk, inl, inr}
+use Rattle.std.proofs.Common.{refl, sym, ap, ◌∙◌, arith}
 use Rattle.std.specs.Prelude.{◌==◌, replicate}
 use Rattle.std.specs.Option.{option_map_or, option_or}
 use Rattle.std.proofs.lemmas.Bool.{eqb-true, eqb-false}
@@ -119,5 +120,6 @@ roles-added held e next roles role stepped are own = record {
         (omega (arith, are.size, class-stepped held e next stepped))
         ∙ own ∙ ap (role_of next) (sym same)
     by class past within false test =
-        get_or-set_other roles e.class class role past (eqb-false class e.class test) ∙ are.each class past within
+        get_or-set_other roles e.class class role past (eqb-false class e.class test)
+        ∙ are.each class past within
         ∙ sym (role-stays held e next class stepped test)

@@ -81,6 +81,7 @@ impl Cursor {
         ensures ahead { OnErr result (InFile (S.outside shelf.old) self.old
             (λ h. IsWithinLook h.order h.file h.before.place (drawn self.new.source))) }
     {
+        // The others are kept out of line: a plain record then does not pay for the room that they need.
         match self.state.dictionary.kind(placed.class) {
             Kind::FrSH => self.take_entry(shelf, placed),
             Kind::FrSE => self.refuse_element(shelf, placed),

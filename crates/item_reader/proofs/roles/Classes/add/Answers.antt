@@ -1,5 +1,5 @@
 -- The class of an entry that was added is within the roles, and its role is the one kept under it.
-use Rattle.std.proofs.Common.{◌<◌, arith, rules}
+use Rattle.std.proofs.Common.{◌<◌, rules}
 use Rattle.item_reader.proofs.Holding.{step-added}
 use Rattle.item_reader.proofs.RolesKept.{roles-added, class-added}
 use Rattle.item_reader.proofs.roles.Classes.add.Goals as goal

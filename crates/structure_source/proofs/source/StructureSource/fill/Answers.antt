@@ -1,5 +1,6 @@
 -- Each step by the lemma of its name on n bytes that are passed in pieces.
-use Rattle.std.proofs.Common.{◌≡◌, ℕ, ◌+◌, ◌-◌, ◌<◌, ◌≤◌, length, take, ap, ◌∙◌, refl, arith, rules, length-take}
+use Rattle.std.proofs.Common.{◌≡◌, ℕ, ◌+◌, ◌-◌, ◌<◌, ◌≤◌, length, take, ap, ◌∙◌, refl, arith, rules}
+use Rattle.std.proofs.Common.{length-take}
 use Rattle.std.proofs.lemmas.Grind.{common_steps}
 use borrow.Rule.Slice.PartMut.{put_mid}
 use Rattle.frame_outside.specs.Shelf.{Outside}
