@@ -28,7 +28,7 @@ pub open-nodes : (s : State) → IsSound s → s.numbering ≡ None
     → s.segment.nodes ≡ map (bodied_of s.dictionary) (frame_of s)
 open-nodes s sound open_is =
     sym (ap (λ n. map (bodied_of s.dictionary) (open_records n s.segment)) open_is
-    ∙ all-bodied s.segment.order s.dictionary s.segment.nodes (sound.frame open_is).records)
+    ∙ all-bodied s.segment.order s.dictionary s.segment.nodes sound.nodes)
 
 -- what is kept of the open frame
 pub frame-collected : (order : Order) (s : State) → s.segment.order ≡ order → IsSound s → s.numbering ≡ None

@@ -142,11 +142,11 @@ sound-record s p told_weight header segment sound none here size reads heavy lig
         header = omega (arith, sound.header);
         built_in = record { structure = sound.built_in.structure; element = sound.built_in.element };
         plans = sound.plans;
+        nodes = subst (λ order. All (IsRecord order s.dictionary) segment.nodes) (sym becomes.order)
+            (All-same (IsRecord s.segment.order s.dictionary) segment.nodes (s.segment.nodes ++ joined ∷ [])
+            becomes.nodes (All-push (IsRecord s.segment.order s.dictionary) s.segment.nodes joined sound.nodes
+            (record { reads = reads; root_is = refl })));
         frame = λ n. record {
-          records = subst (λ order. All (IsRecord order s.dictionary) segment.nodes) (sym becomes.order)
-              (All-same (IsRecord s.segment.order s.dictionary) segment.nodes (s.segment.nodes ++ joined ∷ [])
-              becomes.nodes (All-push (IsRecord s.segment.order s.dictionary) s.segment.nodes joined o.records
-              (record { reads = reads; root_is = refl })));
           end_record = becomes.end_record ∙ o.end_record;
           given = omega (arith, o.given, becomes.given, long, heavy, size);
           header_is = header_is
@@ -188,6 +188,8 @@ sound-frame_end s p segment numbers sound here low few becomes = record {
     header = omega (arith, sound.header);
     built_in = record { structure = sound.built_in.structure; element = sound.built_in.element };
     plans = sound.plans;
+    nodes = subst (λ order. All (IsRecord order s.dictionary) segment.nodes) (sym becomes.order)
+        (All-same (IsRecord s.segment.order s.dictionary) segment.nodes s.segment.nodes becomes.nodes sound.nodes);
     frame = λ none. absurd (none-some numbers (sym none));
     no_frame = λ some. record { load = refl; header_is = refl };
     load = omega arith;
@@ -209,8 +211,8 @@ sound-file_end s p sound here low pending = record {
     header = omega (arith, sound.header);
     built_in = record { structure = sound.built_in.structure; element = sound.built_in.element };
     plans = sound.plans;
+    nodes = sound.nodes;
     frame = λ none. let o : IsOpen s = sound.frame none in record {
-      records = o.records;
       end_record = o.end_record;
       given = o.given;
       header_is = o.header_is;
@@ -284,15 +286,18 @@ header-still order held e (r ∷ rs) all =
     by true later = refl
     by false later = later
 
-open-still : (s : State) (e : Entry) (plans : List (ℕ × List Field)) (end : ℕ) → IsOpen s
+nodes-still : (order : Order) (held : List Entry) (e : Entry) (nodes : List Bodied)
+    → All (IsRecord order held) nodes → All (IsRecord order (held ++ e ∷ [])) nodes
+nodes-still order held e nodes all =
+    All-weaker (IsRecord order held) (IsRecord order (held ++ e ∷ [])) (record-still order held e) nodes all
+
+open-still : (s : State) (e : Entry) (plans : List (ℕ × List Field)) (end : ℕ)
+    → All (IsRecord s.segment.order s.dictionary) s.segment.nodes → IsOpen s
     → IsOpen (record s { at = end; dictionary = s.dictionary ++ e ∷ []; plans = plans })
-open-still s e plans end o = record {
-  records = All-weaker (IsRecord s.segment.order s.dictionary)
-      (IsRecord s.segment.order (s.dictionary ++ e ∷ []))
-      (record-still s.segment.order s.dictionary e) s.segment.nodes o.records;
+open-still s e plans end all o = record {
   end_record = o.end_record;
   given = o.given;
-  header_is = o.header_is ∙ sym (header-still s.segment.order s.dictionary e s.segment.nodes o.records);
+  header_is = o.header_is ∙ sym (header-still s.segment.order s.dictionary e s.segment.nodes all);
 }
 
 pub sound-entry : (s : State) (p : Placed) (entry : Entry) (end : ℕ) (changed : Bool) (new : State)
@@ -311,14 +316,20 @@ sound-entry s p entry end changed new sound here after low below holds pending =
       | inl stays ↦ subst (λ d. IsOpen (record s { at = end; dictionary = d; plans = new.plans }))
           (sym stays.1)
           (record {
-            records = o.records;
             end_record = o.end_record;
             given = o.given;
             header_is = o.header_is;
           })
       | inr grows ↦ subst (λ d. IsOpen (record s { at = end; dictionary = d; plans = new.plans }))
           (sym grows.1)
-          (open-still s entry new.plans end o)
+          (open-still s entry new.plans end sound.nodes o)
+    ]
+
+    nodes : All (IsRecord s.segment.order new.dictionary) s.segment.nodes
+    nodes = elim (step-cases s.dictionary entry new.dictionary holds.step_is) [
+      | inl stays ↦ subst (λ d. All (IsRecord s.segment.order d) s.segment.nodes) (sym stays.1) sound.nodes
+      | inr grows ↦ subst (λ d. All (IsRecord s.segment.order d) s.segment.nodes) (sym grows.1)
+          (nodes-still s.segment.order s.dictionary entry s.segment.nodes sound.nodes)
     ]
 
     kept : IsKept s grown
@@ -328,6 +339,7 @@ sound-entry s p entry end changed new sound here after low below holds pending =
         header = omega (arith, sound.header, here.place, after);
         built_in = record { structure = sound.built_in.structure; element = sound.built_in.element };
         plans = holds.plans;
+        nodes = nodes;
         frame = λ none. opens (sound.frame none);
         no_frame = λ some. let n : HasNoFrame s = sound.no_frame some in
             record { load = n.load; header_is = n.header_is };

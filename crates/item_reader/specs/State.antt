@@ -64,7 +64,6 @@ pub record IsRecord (order : Order) (held : List Entry) (r : Bodied) : Type 0 wh
 -- The segment is the frame that is open. Each record has 14 bytes beside its body, so the load bounds the bytes given
 -- and the number of records alike.
 pub record IsOpen (s : State) : Type 0 where
-  pub records : All (IsRecord s.segment.order s.dictionary) s.segment.nodes
   pub end_record : s.segment.end_record ≡ None
   pub given : s.segment.given + 14 * length s.segment.nodes ≤ s.load + length s.segment.pending
   pub header_is : s.header ≡ has_header s.dictionary (map structure_of s.segment.nodes)
@@ -79,13 +78,14 @@ pub record AreBuiltIn (s : State) : Type 0 where
   pub structure : s.built_in.structure ≡ structure_fields
   pub element : s.built_in.element ≡ element_fields
 
--- The plans are those of the dictionary's entries, the segment is the open frame, and the numbers are within their
--- limits.
+-- The plans are those of the dictionary's entries, by which the records of the segment read; the segment is the open frame,
+-- or the one that has ended; and the numbers are within their limits.
 pub record IsSound (s : State) : Type 0 where
   pub low : s.at ≤ file_limit
   pub header : 40 ≤ s.at
   pub built_in : AreBuiltIn s
   pub plans : (class : ℕ) → plan_of s.plans class ≡ layout_in s.dictionary class
+  pub nodes : All (IsRecord s.segment.order s.dictionary) s.segment.nodes
   pub frame : s.numbering ≡ None → IsOpen s
   pub no_frame : IsSome s.numbering → HasNoFrame s
   pub load : s.load ≤ record_limit

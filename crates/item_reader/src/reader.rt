@@ -1,7 +1,7 @@
 //! The reader of a file's items.
 
 ghost use Rattle.std.specs.Prelude.{◌≡◌, ◌≢◌, ◌+◌, ◌<◌, ◌≤◌, ℕ, [], false, true, None, Some, Ok, Err, IsSome};
-ghost use Rattle.std.specs.Prelude.{IfOk, OnOk, IfErr, OnErr, if◌then◌else◌};
+ghost use Rattle.std.specs.Prelude.{All, IfOk, OnOk, IfErr, OnErr, if◌then◌else◌};
 ghost use Rattle.std.specs.Option.{option_copied};
 ghost use Rattle.frame_outside.specs.Counts.{Rose};
 ghost use Rattle.frame_outside.specs.Shelf.{Told, IsSource, reading_at};
@@ -9,6 +9,7 @@ ghost use Rattle.frame_outside.specs.SlotReader.{DrawsAtMost};
 ghost use Rattle.structure_source.specs.Source.{GoesOn, drawn};
 ghost use Rattle.layout_plan.specs.Plans.{plan_of};
 ghost use Rattle.link_graph.specs.Collected.{Becomes, nothing_in};
+ghost use Rattle.link_graph.specs.Graph.{Layouts, ReadsBy};
 ghost use Rattle.file_grammar.specs.Record.{layout_in};
 ghost use Rattle.file_grammar.specs.Structure.{file_limit};
 ghost use Rattle.file_grammar.specs.Item.{nothing_yet};
@@ -239,9 +240,12 @@ impl ItemReader {
     }
 
     /// The frame: after its end record the whole of it, until the next call of `next`; else as far as it is
-    /// read.
+    /// read. Each body reads by the plan of its class.
     pub fn segment(&self) -> &Segment
-        ensures { result.now ≡ self.now.segment }
+        ensures segment { result.now ≡ self.now.segment }
+        ensures bodies { self.now.error ≡ None → (plans : Layouts)
+            → ((class : ℕ) → plan_of plans class ≡ layout_in self.now.before.dictionary class)
+            → All (ReadsBy plans result.now.order) result.now.nodes }
     {
         &self.cursor.state.segment
     }

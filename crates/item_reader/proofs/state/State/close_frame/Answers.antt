@@ -36,7 +36,7 @@ pub close-requires : goal.close-requires
 close-requires c =
     let s = c.args.self.now in
     all-read s.plans s.segment.order s.dictionary s.segment.nodes c.requires.sound.plans
-    (c.requires.sound.frame c.requires.«open»).records
+    c.requires.sound.nodes
 
 pub returns-in-Some-clause-fault : goal.returns-in-Some-clause-fault
 returns-in-Some-clause-fault c = λ body fault is file stands.

@@ -34,7 +34,7 @@ link_field-field-requires c =
     let body = c.body.result.now in
     let l = loose s c.requires.sound c.args.node c.args.link c.requires.loose in
     let h = holds-loose s.segment.order s.dictionary s.segment.nodes c.args.node c.args.link node body
-    (c.requires.sound.frame c.requires.«open»).records l c.node-record.ensures c.body.ensures.body in
+    c.requires.sound.nodes l c.node-record.ensures c.body.ensures.body in
     subst (λ o. HasLink o fields body c.into.result) (sym c.order.ensures)
     (subst (HasLink s.segment.order fields body) (sym c.into.ensures)
     (loose-link s.segment.order s.dictionary _ node body c.args.link fields h
@@ -46,7 +46,7 @@ unreachable-requires c =
     let node = c.node-record.result.now in
     let l = loose s c.requires.sound c.args.node c.args.link c.requires.loose in
     no-plan s.segment.order s.dictionary s.segment.nodes c.args.node c.args.link node
-    (c.requires.sound.frame c.requires.«open»).records l c.node-record.ensures
+    c.requires.sound.nodes l c.node-record.ensures
     (sym (c.in-None.ensures ∙ c.requires.sound.plans node.class))
 
 pub returns-clause-place : goal.returns-clause-place
@@ -58,7 +58,7 @@ returns-clause-place c =
     let field = c.link_field-field.result in
     let l = loose s c.requires.sound c.args.node c.args.link c.requires.loose in
     let h = holds-loose s.segment.order s.dictionary s.segment.nodes c.args.node c.args.link node body
-    (c.requires.sound.frame c.requires.«open»).records l c.node-record.ensures c.body.ensures.body in
+    c.requires.sound.nodes l c.node-record.ensures c.body.ensures.body in
     let placed = subst (λ o. HasLinkIn o fields body c.args.link field) c.order.ensures
     (subst (λ k. HasLinkIn c.order.result fields body k field) c.into.ensures c.link_field-field.ensures) in
     subst (λ frame. first_loose_of s.segment.order s.dictionary frame frame ≡ Some (node.at, field))
