@@ -1,3 +1,6 @@
+pub mod Positions
+pub mod PageNames
+pub mod PageNumbers
 pub mod Found
 pub mod Marking
 pub mod Bodies

@@ -3,8 +3,10 @@
 #![tactic(auto)]
 
 mod closing;
+mod index;
 mod links;
 mod nodes;
+mod pages;
 mod records;
 mod rows;
 mod segment;
