@@ -7,6 +7,7 @@ mod index;
 mod links;
 mod nodes;
 mod pages;
+mod plan_near;
 mod records;
 mod rows;
 mod segment;

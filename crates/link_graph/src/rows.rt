@@ -8,6 +8,7 @@ ghost use Rattle.link_graph.specs.Table.{AreRows};
 
 use crate::closing::CloseFault;
 use crate::nodes::{Root, is_same};
+use crate::plan_near::PlanNear;
 use crate::segment::Segment;
 use layout_plan::{FieldLink, Plans};
 use std::alloc::{AllocError, Global};
@@ -33,9 +34,10 @@ pub fn put_rows(
         (AreRows plans.now segment.now (length segment.now.nodes) targets.new.items ends.new.items) }
 {
     let mut links = Vec::new(alloc);
+    let mut plan_near = PlanNear::new(plans);
     let mut near = 0;
     for k in 0..segment.len() {
-        segment.read_links(plans, k, &mut links)?;
+        segment.read_links(&mut plan_near, k, &mut links)?;
         if let Some(link) = put_targets(segment, links.as_slice(), targets, &mut near)? {
             return Err(CloseFault::LooseLink { node: k, link });
         }
