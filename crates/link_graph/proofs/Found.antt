@@ -1,19 +1,17 @@
 -- What is found by class and instance.
 use Rattle.std.proofs.Common.{◌≡◌, ℕ, ◌+◌, ◌<◌, Bool, true, false, cond, List, [], ◌∷◌, ◌++◌, length}
 use Rattle.std.proofs.Common.{map, is_some, Option, Some, None, refl, sym, ap, ◌∙◌, subst, arith}
-use Rattle.std.specs.Prelude.{◌==◌, nat_lt, not, IsTrue, IsSome, OnOk, Result, Ok, Err, is_err}
-use Rattle.std.specs.Option.{option_or}
+use Rattle.std.specs.Prelude.{◌==◌, ◌&&◌, nat_lt, not, IsTrue, IsSome, OnOk, Result, Ok, Err, is_err}
 use Rattle.std.specs.List.{position_or_len}
-use Rattle.std.proofs.lemmas.List.{length-map, length_push}
+use Rattle.std.proofs.lemmas.List.{length-map, length_push, map-append}
 use Rattle.std.proofs.lemmas.Bool.{ne_eqb}
 use Rattle.type_text.specs.declared.types.Link.{Link}
 use Rattle.frame_region.specs.Region.{Held}
 use Rattle.link_graph.specs.declared.nodes.Node.{Node}
 use Rattle.link_graph.specs.declared.nodes.Kept.{Kept}
 use Rattle.link_graph.specs.Collected.{Bodied, is_named, place_of, link_to, is_held, target_of}
-use Rattle.link_graph.specs.Kept.{number_in, AreNumbered, bodied, without_stat_kept}
-use Rattle.link_graph.specs.Paged.{Paged, Gives, Keeps, is_link}
-use Rattle.link_graph.proofs.Positions.{position-push}
+use Rattle.link_graph.specs.Kept.{number_in, link_of, AreNumbered, bodied, without_stat_kept}
+use Rattle.link_graph.specs.Index.{is_link, place_in}
 
 -- the number of a record does not depend on its body
 len-bodied : (region : Held) (link : Link) (records : List Kept) →
@@ -30,45 +28,56 @@ place-bodied region link records =
     let size : length (map (bodied region) records) ≡ length records = length-map records (bodied region) in
     λ i. cond (nat_lt (same i) (size i)) (Some (same i)) None
 
--- nor on whether it is a root
-len-stat : (link : Link) (records : List Kept) →
-    position_or_len (λ (kept : Kept). is_named link kept.node) (map without_stat_kept records) ≡
+-- a link names a record exactly where it is the link to it
+named-link : (link : Link) (node : Node) → is_link link (link_to node) ≡ is_named link node
+named-link link node = and-swap (node.instance == link.instance) (node.class == link.class)
+  where
+    and-swap : (a b : Bool) → (a && b) ≡ (b && a)
+    and-swap true true = refl
+    and-swap true false = refl
+    and-swap false true = refl
+    and-swap false false = refl
+
+-- the number of a record is the place of its link
+len-linked : (link : Link) (records : List Kept) → position_or_len (is_link link) (map link_of records) ≡
     position_or_len (λ (kept : Kept). is_named link kept.node) records
-len-stat link [] = refl
-len-stat link (kept ∷ more) = ap (λ n. cond (not (is_named link kept.node)) (1 + n) 0) (len-stat link more)
+len-linked link [] = refl
+len-linked link (kept ∷ more) =
+    (λ i. cond (not (named-link link kept.node i)) (1 + len-linked link more i) 0)
 
-pub numbered-stat : (records : List Kept) (index : Paged) → AreNumbered records index →
+pub place-linked : (link : Link) (records : List Kept) →
+    place_in (map link_of records) link ≡ number_in records link
+place-linked link records =
+    let same = len-linked link records in
+    let size : length (map link_of records) ≡ length records = length-map records link_of in
+    λ i. cond (nat_lt (same i) (size i)) (Some (same i)) None
+
+pub number-linked : (records : List Kept) (index : List Link) (link : Link) → AreNumbered records index →
+    place_in index link ≡ number_in records link
+number-linked records index link numbered =
+    ap (λ (links : List Link). place_in links link) numbered.links ∙ place-linked link records
+
+-- static data have the links that they had
+link-stat : (records : List Kept) → map link_of (map without_stat_kept records) ≡ map link_of records
+link-stat [] = refl
+link-stat (kept ∷ more) = ap (λ links. link_of kept ∷ links) (link-stat more)
+
+pub numbered-stat : (records : List Kept) (index : List Link) → AreNumbered records index →
     AreNumbered (map without_stat_kept records) index
-numbered-stat records index kept =
-    let size : length (map without_stat_kept records) ≡ length records =
-    length-map records without_stat_kept in
-    record {
-      few = omega (arith, size, kept.few);
-      found = λ link. let same = len-stat link records in kept.found link
-          ∙ sym (λ i. cond (nat_lt (same i) (size i)) (Some (same i)) None);
-    }
-
--- one record more in the index
-pub numbered-push : (records : List Kept) (kept : Kept) (old new : Paged) (n : ℕ) →
-    AreNumbered records old → length records < 4294967295 → n ≡ length records →
-    Gives (link_to kept.node) n old new → AreNumbered (records ++ kept ∷ []) new
-numbered-push records kept old new n numbered few is gives = record {
-  few = omega (arith, length_push records kept, few);
-  found = λ link.
-      gives link
-      ∙ (λ i. option_or (numbered.found link i)
-      (cond (is_link (link_to kept.node) link) (Some (is i)) None))
-      ∙ sym (position-push (λ (kept : Kept). is_named link kept.node) records kept);
+numbered-stat records index numbered = record {
+  few = omega (arith, length-map records without_stat_kept, numbered.few);
+  links = numbered.links ∙ sym (link-stat records);
 }
 
--- the index of the same numbers
-pub numbered-same : (records others : List Kept) (old new : Paged) →
-    AreNumbered records old → others ≡ records → Keeps old new → AreNumbered others new
-numbered-same records others old new numbered is keeps =
-    subst (λ (rs : List Kept). AreNumbered rs new) (sym is) (record {
-      few = numbered.few;
-      found = λ link. keeps link ∙ numbered.found link;
-    })
+-- one record more
+pub numbered-push : (records others : List Kept) (kept : Kept) (old new : List Link) → AreNumbered records old →
+    length records < 4294967295 → others ≡ records ++ kept ∷ [] → new ≡ old ++ link_of kept ∷ [] →
+    AreNumbered others new
+numbered-push records others kept old new numbered few pushed linked = record {
+  few = omega (arith, ap length pushed, length_push records kept, few);
+  links = linked ∙ ap (λ (links : List Link). links ++ link_of kept ∷ []) numbered.links
+      ∙ sym (map-append link_of records (kept ∷ [])) ∙ ap (map link_of) (sym pushed);
+}
 
 -- whether the name of a node is held
 pub held-name : (region : Held) (records : List Kept) (nodes : List Bodied) (node : Node) (found : Option ℕ)

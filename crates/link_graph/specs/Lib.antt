@@ -4,5 +4,5 @@ pub mod Graph
 pub mod Relinked
 -- of the inside: how records, their index, bodies and targets are kept
 pub mod Kept
-pub mod Paged
+pub mod Index
 pub mod Table

@@ -1,149 +1,162 @@
-//! The numbers of records by class and instance, kept on pages of 32 instances.
-//!
-//! Records mostly come in order or in reverse, so the page looked at last is tried first.
+//! The numbers of links, each found in at most thirteen steps whatever links there are.
 
-ghost use Rattle.std.specs.Prelude.{◌≡◌, ◌<◌, ◌*◌, ◌+◌, ◌%◌, ◌↔◌, [], None, Some, OnOk, OnErr, IfOk, IsErrOf, IsSome};
-ghost use Rattle.link_graph.specs.Paged.{Gives, Keeps, held, looked, page_in, page_of};
+ghost use Rattle.std.specs.Prelude.{◌≡◌, ◌<◌, ◌*◌, ◌+◌, ◌↔◌, [], ◌++◌, ◌∷◌, None, Some, OnOk, OnErr, IsErrOf};
+ghost use Rattle.std.specs.Prelude.{IsSome, length};
+ghost use Rattle.link_graph.specs.Index.{IsForward, digits_of, is_link, place_in, spot_of};
 
-use crate::pages::{PageName, Pages};
-use std::alloc::{AllocError, Global};
+use std::alloc::Global;
 use std::marker::Model;
 use type_text::Link;
 
-/// How many instances a page is for.
-const PAGE_SIZE: u32 = 32;
+/// How many links may hang below one, by a digit.
+const WIDTH: usize = 16;
 
-/// Stands on a page where an instance has no number.
-const NO_NUMBER: u32 = u32::MAX;
-
-/// Why a link is not given a number.
+/// Why a link is not put.
 #[derive(Clone, Copy, Debug, PartialEq, Eq)]
-pub enum GiveFault {
-    /// It has one.
+pub enum PushFault {
+    /// It has a number.
     Taken,
     /// There was no memory.
     NoMemory,
 }
 
-/// Numbers of links. Contracts see its pages, and speak of the number that a link has.
+/// Where the walk to a link ends.
+#[derive(Clone, Copy)]
+enum Spot {
+    /// At the number of the link.
+    Taken(u32),
+    /// At a place where nothing hangs.
+    Free(usize),
+}
+
+/// Links, of which no two are the same, numbered in the order in which they came. Contracts see them in it.
+///
+/// The first link is the root of a tree. A walk to a link goes from there down to the one that hangs by its
+/// next digit of four bits, lowest first, until it comes to the link. Two links have at most twelve digits in
+/// common, so no file makes a walk long.
 #[derive(Drop)]
 pub struct Index {
-    pages: Pages,
-    /// The numbers of the instances of one page after another.
-    numbers: Vec<u32>,
-    /// The page that was given a number last.
-    near: usize,
+    links: Vec<Link>,
+    /// Of one link after another by digit, the number of the link that hangs there: 0 where none does, since
+    /// the first hangs nowhere.
+    children: Vec<u32>,
 }
 
 impl Model for Index {
-    ghost use Rattle.std.specs.Prelude.{◌≡◌, ◌*◌, length};
-    ghost use Rattle.link_graph.specs.Paged.{Paged};
+    ghost use Rattle.std.specs.Prelude.{List};
+    ghost use Rattle.type_text.specs.declared.types.Link.{Link};
 
-    ghost Value = { Paged };
+    ghost Value = { List Link };
 
-    ghost view = { λ i. record { pages = i.pages; numbers = i.numbers.items } };
+    ghost use Rattle.link_graph.specs.Index.{AreReached};
 
-    ghost invariant = { λ i. length i.numbers.items ≡ length i.pages * 32 };
+    ghost view = { λ i. i.links.items };
+
+    ghost invariant = { λ i. AreReached i.links.items i.children.items };
 }
 
 impl Index {
-    /// No link has a number. It takes no memory yet.
+    /// No link. It takes no memory yet.
     pub fn new(alloc: Global) -> Index
-        ensures { result ≡ record { pages = []; numbers = [] } }
+        ensures { result ≡ [] }
     {
         Index {
-            pages: Pages::new(alloc),
-            numbers: Vec::new(alloc),
-            near: 0,
+            links: Vec::new(alloc),
+            children: Vec::new(alloc),
         }
     }
 
-    /// The number of a link. The page that is near is tried first, and becomes the one where the link stands.
-    pub fn number(&self, to: Link, near: &mut usize) -> Option<u32>
-        ensures { result ≡ looked self.now to }
+    /// The number of a link. The one after the number that is `near` is tried first, and the one found is
+    /// near from then on.
+    pub fn number(&self, to: Link, near: &mut u32) -> Option<u32>
+        ensures { result ≡ place_in self.now to }
     {
-        match self.pages.find(page_of(to), *near) {
-            Some(page) => {
-                *near = page;
-                held(self.numbers[place_on(page, to)])
+        let next = *near as usize + 1;
+        if next < self.links.len() && is_link(to, self.links[next]) {
+            *near = next as u32;
+            return Some(*near);
+        }
+        match spot_of(self.links.as_slice(), self.children.as_slice(), to) {
+            Spot::Taken(number) => {
+                *near = number;
+                Some(number)
             }
-            None => None,
+            Spot::Free(_) => None,
         }
     }
 
-    /// Gives a link that has none a number below 4,294,967,295. After a refusal nothing has changed.
+    /// Puts a link behind the others, which are fewer than 4,294,967,295. After a refusal nothing has
+    /// changed.
     ///
     /// # Errors
     ///
-    /// [`GiveFault::Taken`] exactly where the link has a number.
-    pub fn give(&mut self, to: Link, number: u32) -> Result<(), GiveFault>
-        requires { number < 4294967295 }
-        ensures taken { IsErrOf result GiveFault.Taken ↔ IsSome (looked self.old to) }
-        ensures ok { OnOk result (Gives to number self.old self.new) }
-        ensures err { OnErr result (Keeps self.old self.new) }
+    /// [`PushFault::Taken`] exactly where the link is one of them.
+    pub fn push(&mut self, link: Link) -> Result<(), PushFault>
+        requires { length self.old < 4294967295 }
+        ensures taken { IsErrOf result PushFault.Taken ↔ IsSome (place_in self.old link) }
+        ensures ok { OnOk result (self.new ≡ self.old ++ link ∷ []) }
+        ensures err { OnErr result (self.new ≡ self.old) }
     {
-        let Ok(page) = self.page(page_of(to)) else {
-            return Err(GiveFault::NoMemory);
+        let Spot::Free(place) = spot_of(self.links.as_slice(), self.children.as_slice(), link)
+        else {
+            return Err(PushFault::Taken);
         };
-        self.near = page;
-        let place = place_on(page, to);
-        if self.numbers[place] != NO_NUMBER {
-            return Err(GiveFault::Taken);
+        let number = self.links.len();
+        let count = self.children.len();
+        if self.children.extend_from_slice(&[0; WIDTH]).is_err() {
+            return Err(PushFault::NoMemory);
         }
-        self.numbers[place] = number;
+        if self.links.push(link).is_err() {
+            self.children.truncate(count);
+            return Err(PushFault::NoMemory);
+        }
+        if number > 0 {
+            self.children[place] = number as u32;
+        }
         Ok(())
     }
 
-    /// The page of a name. It is made where there is none, and then no link of it has a number.
-    fn page(&mut self, name: PageName) -> Result<usize, AllocError>
-        ensures page { IfOk result (λ page. page_in self.new.pages name ≡ Some page) }
-        ensures kept { Keeps self.old self.new }
-        ensures err { OnErr result (page_in self.old.pages name ≡ None) }
-    {
-        if let Some(page) = self.pages.find(name, self.near) {
-            return Ok(page);
-        }
-        let page = self.pages.len();
-        let count = self.numbers.len();
-        self.numbers
-            .extend_from_slice(&[NO_NUMBER; PAGE_SIZE as usize])?;
-        if self.pages.push(name).is_err() {
-            self.numbers.truncate(count);
-            return Err(AllocError);
-        }
-        Ok(page)
-    }
-
-    /// Leaves no link a number. It takes time by how many pages there were.
+    /// Leaves no link. It takes time by how many there were.
     pub fn clear(&mut self)
-        ensures { self.new ≡ record { pages = []; numbers = [] } }
+        ensures { self.new ≡ [] }
     {
-        self.pages.clear();
-        self.numbers.clear();
+        self.links.clear();
+        self.children.clear();
     }
 }
 
-/// The name of the page of a link.
-fn page_of(to: Link) -> PageName
-    ensures { result ≡ page_of to }
+/// Where the walk to a link ends.
+fn spot_of(links: &[Link], children: &[u32], to: Link) -> Spot
+    requires size { length children.now ≡ length links.now * 16 }
+    requires forward { IsForward (length links.now) children.now }
+    ensures { result ≡ spot_of links.now children.now to }
 {
-    (to.instance / PAGE_SIZE, to.class)
-}
-
-/// Where the number of a link stands, which is on the page of a number.
-fn place_on(page: usize, to: Link) -> usize
-    requires { page < 288230376151711744 }
-    ensures { result ≡ page * 32 + to.instance % 32 }
-{
-    page * PAGE_SIZE as usize + (to.instance % PAGE_SIZE) as usize
-}
-
-fn held(number: u32) -> Option<u32>
-    ensures { result ≡ held number }
-{
-    if number == NO_NUMBER {
-        None
-    } else {
-        Some(number)
+    if links.is_empty() {
+        return Spot::Free(0);
     }
+    let mut number = 0;
+    let mut digits = digits_of(to);
+    while !is_link(to, links[number as usize]) {
+        let place = number as usize * WIDTH + (digits % 16) as usize;
+        number = children[place];
+        if number == 0 {
+            return Spot::Free(place);
+        }
+        digits /= 16;
+    }
+    Spot::Taken(number)
+}
+
+/// The digits of a link as one number: those of its instance, and above them those of its class.
+fn digits_of(link: Link) -> u64
+    ensures { result ≡ digits_of link }
+{
+    u64::from(link.class) * 0x1_0000_0000 + u64::from(link.instance)
+}
+
+/// Whether two links are the same.
+fn is_link(link: Link, other: Link) -> bool
+    ensures { result ≡ is_link link other }
+{
+    other.instance == link.instance && other.class == link.class
 }

@@ -6,7 +6,6 @@ mod closing;
 mod index;
 mod links;
 mod nodes;
-mod pages;
 mod plan_near;
 mod records;
 mod rows;

@@ -5,7 +5,7 @@ ghost use Rattle.std.specs.Prelude.{OnErr, IsErrOf, IsSome, ◌↔◌};
 ghost use Rattle.link_graph.specs.Collected.{link_to, without_stat_root};
 ghost use Rattle.link_graph.specs.Kept.{number_in, without_stat_kept};
 
-use crate::index::{GiveFault, Index};
+use crate::index::{Index, PushFault};
 use crate::nodes::{Kept, Root, link_to};
 use std::alloc::Global;
 use std::marker::Model;
@@ -54,9 +54,9 @@ impl Records {
         self.kept.len() as u32
     }
 
-    /// The number of the record with a link's class and instance. It is found soonest where the record found
-    /// last with this `near`, at first 0, has an instance close by.
-    pub fn number(&self, to: Link, near: &mut usize) -> Option<u32>
+    /// The number of the record with a link's class and instance. The record after the one that is `near` is
+    /// tried first, and the one found is near from then on.
+    pub fn number(&self, to: Link, near: &mut u32) -> Option<u32>
         ensures { result ≡ number_in self.now to }
     {
         self.index.number(to, near)
@@ -75,10 +75,10 @@ impl Records {
     ///
     /// # Errors
     ///
-    /// [`GiveFault::Taken`] exactly where one has its class and instance.
-    pub fn push(&mut self, kept: Kept) -> Result<(), GiveFault>
+    /// [`PushFault::Taken`] exactly where one has its class and instance.
+    pub fn push(&mut self, kept: Kept) -> Result<(), PushFault>
         requires { length self.old < 4294967295 }
-        ensures taken { IsErrOf result GiveFault.Taken ↔ IsSome (number_in self.old (link_to kept.node)) }
+        ensures taken { IsErrOf result PushFault.Taken ↔ IsSome (number_in self.old (link_to kept.node)) }
         ensures ok { OnOk result (self.new ≡ self.old ++ kept ∷ []) }
         ensures err { OnErr result (self.new ≡ self.old) }
     {
@@ -87,7 +87,7 @@ impl Records {
         if self.kept.push(kept).is_err() {
             return Err(self.fault(to));
         }
-        if let Err(fault) = self.index.give(to, number) {
+        if let Err(fault) = self.index.push(to) {
             self.kept.truncate(number as usize);
             return Err(fault);
         }
@@ -95,12 +95,12 @@ impl Records {
     }
 
     /// Why a record is not put, where there is no memory for it.
-    fn fault(&self, to: Link) -> GiveFault
-        ensures { result ≡ GiveFault.Taken ↔ IsSome (number_in self.now to) }
+    fn fault(&self, to: Link) -> PushFault
+        ensures { result ≡ PushFault.Taken ↔ IsSome (number_in self.now to) }
     {
-        match self.index.number(to, &mut 0) {
-            Some(_) => GiveFault::Taken,
-            None => GiveFault::NoMemory,
+        match self.number(to, &mut 0) {
+            Some(_) => PushFault::Taken,
+            None => PushFault::NoMemory,
         }
     }
 

@@ -54,7 +54,7 @@ fn put_targets(
     segment: &Segment,
     links: &[FieldLink],
     targets: &mut Vec<Option<u32>>,
-    near: &mut usize,
+    near: &mut u32,
 ) -> Result<Option<u32>, AllocError>
     requires { length links.now ≤ 4294967295 }
     ensures loose { IfOk result

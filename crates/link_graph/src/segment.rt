@@ -7,7 +7,7 @@ ghost use Rattle.link_graph.specs.Collected.{Collected, Bodied, Becomes, nothing
 ghost use Rattle.link_graph.specs.Collected.{without_stat, target_of, is_held};
 ghost use Rattle.link_graph.specs.Relinked.{HasLinkBy, SetsLink, IsLinkOf};
 
-use crate::index::GiveFault;
+use crate::index::PushFault;
 use crate::links::link_bytes;
 use crate::nodes::{Kept, Node};
 use crate::records::Records;
@@ -131,8 +131,8 @@ impl Segment {
         let span = self.pending;
         match self.records.push(Kept { node, span }) {
             Ok(()) => {}
-            Err(GiveFault::Taken) => return Err(SegmentFault::InstanceTwice),
-            Err(GiveFault::NoMemory) => return Err(SegmentFault::NoMemory),
+            Err(PushFault::Taken) => return Err(SegmentFault::InstanceTwice),
+            Err(PushFault::NoMemory) => return Err(SegmentFault::NoMemory),
         }
         self.pending = self.region.put(&[]);
         Ok(number)
@@ -163,9 +163,9 @@ impl Segment {
         self.target_near(to, &mut 0)
     }
 
-    /// The same, found soonest where the target found last with this `near`, at first 0, has an instance
-    /// close by.
-    pub(crate) fn target_near(&self, to: Link, near: &mut usize) -> Option<u32>
+    /// The same. The record after the one that is `near` is tried first, and the one found is near from then
+    /// on.
+    pub(crate) fn target_near(&self, to: Link, near: &mut u32) -> Option<u32>
         ensures { result ≡ target_of self.now.nodes to }
     {
         if to.class == 0 {
