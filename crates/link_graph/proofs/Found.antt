@@ -70,7 +70,8 @@ numbered-stat records index numbered = record {
 }
 
 -- one record more
-pub numbered-push : (records others : List Kept) (kept : Kept) (old new : List Link) → AreNumbered records old →
+pub numbered-push : (records others : List Kept) (kept : Kept) (old new : List Link) →
+    AreNumbered records old →
     length records < 4294967295 → others ≡ records ++ kept ∷ [] → new ≡ old ++ link_of kept ∷ [] →
     AreNumbered others new
 numbered-push records others kept old new numbered few pushed linked = record {
@@ -89,12 +90,14 @@ held-name region records nodes node found is looked =
 
 -- it is held exactly where a record has it
 pub held-some : (region : Held) (records : List Kept) (nodes : List Bodied) (node : Node) →
-    map (bodied region) records ≡ nodes → IsTrue (is_held nodes node) → IsSome (number_in records (link_to node))
+    map (bodied region) records ≡ nodes → IsTrue (is_held nodes node) →
+    IsSome (number_in records (link_to node))
 held-some region records nodes node is held =
     subst IsTrue (held-name region records nodes node (number_in records (link_to node)) is refl) held
 
 pub some-held : (region : Held) (records : List Kept) (nodes : List Bodied) (node : Node) →
-    map (bodied region) records ≡ nodes → IsSome (number_in records (link_to node)) → IsTrue (is_held nodes node)
+    map (bodied region) records ≡ nodes → IsSome (number_in records (link_to node)) →
+    IsTrue (is_held nodes node)
 some-held region records nodes node is found =
     subst IsTrue (sym (held-name region records nodes node (number_in records (link_to node)) is refl)) found
 

@@ -1,6 +1,8 @@
 -- Walks to links in their tree, and one link more.
-use Rattle.std.proofs.Common.{◌≡◌, ℕ, zero, suc, ◌+◌, ◌*◌, ◌/◌, ◌%◌, ◌<◌, ◌≤◌, ◌&&◌, ◌⊎◌, inl, inr, true, false}
-use Rattle.std.proofs.Common.{cond, List, [], ◌∷◌, ◌++◌, length, get_or, replicate, Option, Some, None, refl, sym, ap}
+use Rattle.std.proofs.Common.{◌≡◌, ℕ, zero, suc, ◌+◌, ◌*◌, ◌/◌, ◌%◌}
+use Rattle.std.proofs.Common.{◌<◌, ◌≤◌, ◌&&◌, ◌⊎◌, inl, inr, true, false}
+use Rattle.std.proofs.Common.{cond, List, [], ◌∷◌, ◌++◌, length, get_or}
+use Rattle.std.proofs.Common.{replicate, Option, Some, None, refl, sym, ap}
 use Rattle.std.proofs.Common.{◌∙◌, arith}
 use Rattle.std.specs.Prelude.{◌==◌, slice_get}
 use Rattle.std.specs.Option.{option_or, option_map_or}
@@ -26,7 +28,8 @@ pub link-itself : (link : Link) → is_link link link ≡ true
 link-itself link =
     λ i. eq-eqb link.instance link.instance refl i && eq-eqb link.class link.class refl i
 
-get-old : {X : Type 0} (xs : List X) (y : X) (k : ℕ) → k < length xs → slice_get (xs ++ y ∷ []) k ≡ slice_get xs k
+get-old : {X : Type 0} (xs : List X) (y : X) (k : ℕ) → k < length xs →
+    slice_get (xs ++ y ∷ []) k ≡ slice_get xs k
 get-old [] y k lt = absurd (omega arith)
 get-old (x ∷ xs) y zero lt = refl
 get-old (x ∷ xs) y (suc k) lt = get-old xs y k (omega arith)
@@ -48,7 +51,8 @@ pub at-old : (links : List Link) (to link : Link) (number : ℕ) → number < le
 at-old links to link number lt =
     ap (λ (found : Option Link). option_map_or (is_link link) found false) (get-old links to number lt)
 
-pub at-new : (links : List Link) (to link : Link) → is_at (links ++ to ∷ []) (length links) link ≡ is_link link to
+pub at-new : (links : List Link) (to link : Link) → is_at (links ++ to ∷ []) (length links) link ≡
+    is_link link to
 at-new links to link =
     ap (λ (found : Option Link). option_map_or (is_link link) found false) (get-new links to)
 
@@ -85,7 +89,8 @@ replicate-blank (suc n) zero d = refl
 replicate-blank (suc n) (suc k) d = replicate-blank n k d
 
 -- past the end of a list stands what is put there
-pub append-blank : {X : Type 0} (xs : List X) (n k : ℕ) (d : X) → get_or (xs ++ replicate n d) k d ≡ get_or xs k d
+pub append-blank : {X : Type 0} (xs : List X) (n k : ℕ) (d : X) →
+    get_or (xs ++ replicate n d) k d ≡ get_or xs k d
 append-blank [] n k d = replicate-blank n k d
 append-blank (x ∷ xs) n zero d = refl
 append-blank (x ∷ xs) n (suc k) d = append-blank xs n k d

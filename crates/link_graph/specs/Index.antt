@@ -1,5 +1,6 @@
 -- The index of links: each hangs below another, by the digits of its instance and class.
-use Rattle.std.specs.Prelude.{◌≡◌, ℕ, zero, suc, ◌+◌, ◌*◌, ◌/◌, ◌%◌, ◌<◌, ◌≤◌, ◌==◌, ◌&&◌, ◌⊎◌, Bool, false, if◌then◌else◌}
+use Rattle.std.specs.Prelude.{◌≡◌, ℕ, zero, suc, ◌+◌, ◌*◌, ◌/◌, ◌%◌}
+use Rattle.std.specs.Prelude.{◌<◌, ◌≤◌, ◌==◌, ◌&&◌, ◌⊎◌, Bool, false, if◌then◌else◌}
 use Rattle.std.specs.Prelude.{List, length, position, slice_get, slice_index_or, Option, Some, None}
 use Rattle.std.specs.Option.{option_map_or}
 use Rattle.type_text.specs.declared.types.Link.{Link}
@@ -54,5 +55,6 @@ pub record AreReached (links : List Link) (children : List ℕ) : Type 0 where
   pub few : length links ≤ 4294967295
   pub size : length children ≡ length links * 16
   pub forward : IsForward (length links) children
-  pub distinct : (number : ℕ) (link : Link) → slice_get links number ≡ Some link → place_in links link ≡ Some number
+  pub distinct : (number : ℕ) (link : Link) → slice_get links number ≡ Some link →
+      place_in links link ≡ Some number
   pub reached : (link : Link) → taken (spot_of links children link) ≡ place_in links link

@@ -1,5 +1,6 @@
 -- The new link hangs where the walk to it ended.
-use Rattle.std.proofs.Common.{length-append, ◌≡◌, ◌<◌, ◌++◌, ◌∷◌, [], List, ℕ, length, replicate, set, sym, subst, ap, ◌∙◌, arith, rules}
+use Rattle.std.proofs.Common.{length-append, ◌≡◌, ◌<◌, ◌++◌, ◌∷◌, [], List, ℕ}
+use Rattle.std.proofs.Common.{length, replicate, set, sym, subst, ap, ◌∙◌, arith, rules}
 use Rattle.type_text.specs.declared.types.Link.{Link}
 use Rattle.link_graph.specs.declared.index.Spot.TheVariants.{Free}
 use Rattle.link_graph.specs.Index.{AreReached, digits_of, spot_of}
@@ -42,7 +43,8 @@ invariant_of-self-then-number-gt0 c =
     reached-push links children c.args.link c.in-Free.place c.self.invariant some (search rules) spot in
     subst (λ (ls : List Link). AreReached ls (set c.extend_from_slice.new.self.items c.in-Free.place
     c.len-number.result)) (sym pushed)
-    (subst (λ (cs : List ℕ). AreReached (links ++ c.args.link ∷ []) (set cs c.in-Free.place c.len-number.result))
+    (subst (λ (cs : List ℕ). AreReached (links ++ c.args.link ∷ []) (set cs c.in-Free.place
+    c.len-number.result))
     (sym extended)
     (subst (λ (n : ℕ). AreReached (links ++ c.args.link ∷ [])
     (set (children ++ replicate 16 0) c.in-Free.place n)) (sym count) reached))

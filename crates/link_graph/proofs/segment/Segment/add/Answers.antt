@@ -20,7 +20,8 @@ pub returns-in-Err-NoMemory-clause-twice : goal.returns-in-Err-NoMemory-clause-t
 returns-in-Err-NoMemory-clause-twice c =
     let s = c.self.inside in (
       λ e. cc,
-      λ held. let taken = c.in-Err-NoMemory.ensures.taken.1 (held-some s.region s.records c.args.self.now.nodes
+      λ held. let taken = c.in-Err-NoMemory.ensures.taken.1 (held-some s.region s.records
+          c.args.self.now.nodes
           c.args.node (ap (λ (s : Collected). s.nodes) c.self.view_is) held) in cc,
     )
 
