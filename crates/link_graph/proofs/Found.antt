@@ -1,22 +1,17 @@
 -- What is found by class and instance.
-use Rattle.std.proofs.Common.{◌≡◌, ℕ, ◌+◌, ◌<◌, ◌&&◌, Bool, true, false, cond, List, [], ◌∷◌, ◌++◌, length}
-use Rattle.std.proofs.Common.{map, position, is_some, Option, Some, None, refl, sym, ap, ◌∙◌, subst, arith}
-use Rattle.std.specs.Prelude.{◌==◌, nat_lt, not, IsTrue, OnOk, Result, Ok, Err, is_err}
-use Rattle.std.specs.Option.{option_or}
-use Rattle.std.specs.List.{position_or_len, position_from}
-use Rattle.std.specs.Ordering.{nat_cmp, is_eq}
-use Rattle.std.specs.Cmp.{unsigned_tied, tied_then}
-use Rattle.std.specs.Map.{lookup}
-use Rattle.std.specs.BTreeMap.{BTreeMap, Updates, IsUnchanged}
-use Rattle.std.proofs.lemmas.Iterator.Adapters.{position_from-zero}
-use Rattle.std.proofs.lemmas.List.{length-map, length_push}
-use Rattle.std.proofs.lemmas.Bool.{eqb-true, ne_eqb}
+use Rattle.std.proofs.Common.{◌≡◌, ℕ, ◌+◌, ◌<◌, Bool, true, false, cond, List, [], ◌∷◌, ◌++◌, length}
+use Rattle.std.proofs.Common.{map, is_some, Option, Some, None, refl, sym, ap, ◌∙◌, subst, arith}
+use Rattle.std.specs.Prelude.{◌==◌, ◌&&◌, nat_lt, not, IsTrue, IsSome, OnOk, Result, Ok, Err, is_err}
+use Rattle.std.specs.List.{position_or_len}
+use Rattle.std.proofs.lemmas.List.{length-map, length_push, map-append}
+use Rattle.std.proofs.lemmas.Bool.{ne_eqb}
 use Rattle.type_text.specs.declared.types.Link.{Link}
 use Rattle.frame_region.specs.Region.{Held}
 use Rattle.link_graph.specs.declared.nodes.Node.{Node}
 use Rattle.link_graph.specs.declared.nodes.Kept.{Kept}
 use Rattle.link_graph.specs.Collected.{Bodied, is_named, place_of, link_to, is_held, target_of}
-use Rattle.link_graph.specs.Kept.{number_in, by_name, AreNumbered, bodied, without_stat_kept}
+use Rattle.link_graph.specs.Kept.{number_in, link_of, AreNumbered, bodied, without_stat_kept}
+use Rattle.link_graph.specs.Index.{is_link, place_in}
 
 -- the number of a record does not depend on its body
 len-bodied : (region : Held) (link : Link) (records : List Kept) →
@@ -33,98 +28,57 @@ place-bodied region link records =
     let size : length (map (bodied region) records) ≡ length records = length-map records (bodied region) in
     λ i. cond (nat_lt (same i) (size i)) (Some (same i)) None
 
--- nor on whether it is a root
-len-stat : (link : Link) (records : List Kept) →
-    position_or_len (λ (kept : Kept). is_named link kept.node) (map without_stat_kept records) ≡
-    position_or_len (λ (kept : Kept). is_named link kept.node) records
-len-stat link [] = refl
-len-stat link (kept ∷ more) = ap (λ n. cond (not (is_named link kept.node)) (1 + n) 0) (len-stat link more)
-
-pub numbered-stat : (records : List Kept) (numbers : BTreeMap (ℕ × ℕ) ℕ) → AreNumbered records numbers →
-    AreNumbered (map without_stat_kept records) numbers
-numbered-stat records numbers kept =
-    let size : length (map without_stat_kept records) ≡ length records =
-    length-map records without_stat_kept in
-    record {
-      few = omega (arith, size, kept.few);
-      found = λ link. let same = len-stat link records in kept.found link
-          ∙ sym (λ i. cond (nat_lt (same i) (size i)) (Some (same i)) None);
-    }
-
--- one more element
-from-push : {X : Type 0} (p : X → Bool) (i : ℕ) (xs : List X) (y : X) →
-    position_from p i (xs ++ y ∷ []) ≡ option_or (position_from p i xs)
-    (cond (p y) (Some (i + length xs)) None)
-from-push p i [] y = ap (λ n. cond (p y) (Some n) None) (omega arith)
-from-push {X} p i (x ∷ xs) y = by (p x) (from-push p (i + 1) xs y)
+-- a link names a record exactly where it is the link to it
+named-link : (link : Link) (node : Node) → is_link link (link_to node) ≡ is_named link node
+named-link link node = and-swap (node.instance == link.instance) (node.class == link.class)
   where
-    by : (b : Bool) → position_from p (i + 1) (xs ++ y ∷ []) ≡ option_or (position_from p (i + 1) xs)
-        (cond (p y) (Some (i + 1 + length xs)) None) →
-        cond b (Some i) (position_from p (i + 1) (xs ++ y ∷ [])) ≡ option_or
-        (cond b (Some i) (position_from p (i + 1) xs)) (cond (p y) (Some (i + length (x ∷ xs))) None)
-    by true rest = refl
-    by false rest = rest ∙ ap (λ n. option_or (position_from p (i + 1) xs) (cond (p y) (Some n) None))
-        (omega arith)
+    and-swap : (a b : Bool) → (a && b) ≡ (b && a)
+    and-swap true true = refl
+    and-swap true false = refl
+    and-swap false true = refl
+    and-swap false false = refl
 
-pub position-push : {X : Type 0} (p : X → Bool) (xs : List X) (y : X) →
-    position p (xs ++ y ∷ []) ≡ option_or (position p xs) (cond (p y) (Some (length xs)) None)
-position-push p xs y =
-    let count : 0 + length xs ≡ length xs = omega arith in
-    position_from-zero p (xs ++ y ∷ []) ∙ from-push p 0 xs y
-    ∙ ap (λ n. option_or (position_from p 0 xs) (cond (p y) (Some n) None)) count
-    ∙ ap (λ found. option_or found (cond (p y) (Some (length xs)) None)) (sym (position_from-zero p xs))
+-- the number of a record is the place of its link
+len-linked : (link : Link) (records : List Kept) → position_or_len (is_link link) (map link_of records) ≡
+    position_or_len (λ (kept : Kept). is_named link kept.node) records
+len-linked link [] = refl
+len-linked link (kept ∷ more) =
+    (λ i. cond (not (named-link link kept.node i)) (1 + len-linked link more i) 0)
 
--- the order of names tells them apart
-pub is-named : (link : Link) (node : Node) →
-    is_eq (by_name (node.class, node.instance) (link.class, link.instance)) ≡ is_named link node
-is-named link node =
-    sym (tied_then (nat_cmp node.class link.class) (nat_cmp node.instance link.instance))
-    ∙ (λ i. unsigned_tied node.class link.class i && unsigned_tied node.instance link.instance i)
+pub place-linked : (link : Link) (records : List Kept) →
+    place_in (map link_of records) link ≡ number_in records link
+place-linked link records =
+    let same = len-linked link records in
+    let size : length (map link_of records) ≡ length records = length-map records link_of in
+    λ i. cond (nat_lt (same i) (size i)) (Some (same i)) None
 
-both : (a b : Bool) → (a && b) ≡ true → (a ≡ true) × (b ≡ true)
-both true b e = (refl, e)
-both false b e = cc
+pub number-linked : (records : List Kept) (index : List Link) (link : Link) → AreNumbered records index →
+    place_in index link ≡ number_in records link
+number-linked records index link numbered =
+    ap (λ (links : List Link). place_in links link) numbered.links ∙ place-linked link records
 
--- a link that names a record is the link to it
-pub named-link : (link : Link) (node : Node) → is_named link node ≡ true → link ≡ link_to node
-named-link link node e =
-    let parts = both (node.class == link.class) (node.instance == link.instance) e in
-    let class : node.class ≡ link.class = eqb-true node.class link.class parts.0 in
-    let instance : node.instance ≡ link.instance = eqb-true node.instance link.instance parts.1 in
-    sym (λ i. record { class = class i; instance = instance i })
+-- static data have the links that they had
+link-stat : (records : List Kept) → map link_of (map without_stat_kept records) ≡ map link_of records
+link-stat [] = refl
+link-stat (kept ∷ more) = ap (λ links. link_of kept ∷ links) (link-stat more)
 
-choose : (e : Bool) (found : Option ℕ) (n : ℕ) → (e ≡ true → found ≡ None) →
-    cond e (Some n) found ≡ option_or found (cond e (Some n) None)
-choose true found n free = sym (ap (λ found. option_or found (Some n)) (free refl))
-choose false None n free = refl
-choose false (Some m) n free = refl
-
--- one record more in the index
-pub numbered-push : (records : List Kept) (kept : Kept) (numbers more : BTreeMap (ℕ × ℕ) ℕ) (n : ℕ) →
-    AreNumbered records numbers → length records < 4294967295 →
-    number_in records (link_to kept.node) ≡ None → n ≡ length records →
-    Updates by_name numbers more (kept.node.class, kept.node.instance) (Some n) →
-    AreNumbered (records ++ kept ∷ []) more
-numbered-push records kept numbers more n numbered few free is updates = record {
-  few = omega (arith, length_push records kept, few);
-  found = λ link.
-      updates.0 (link.class, link.instance)
-      ∙ (λ i. cond (is-named link kept.node i) (Some (is i)) (numbered.found link i))
-      ∙ choose (is_named link kept.node) (number_in records link) (length records)
-      (λ e. ap (number_in records) (named-link link kept.node e) ∙ free)
-      ∙ sym (position-push (λ (kept : Kept). is_named link kept.node) records kept);
+pub numbered-stat : (records : List Kept) (index : List Link) → AreNumbered records index →
+    AreNumbered (map without_stat_kept records) index
+numbered-stat records index numbered = record {
+  few = omega (arith, length-map records without_stat_kept, numbered.few);
+  links = numbered.links ∙ sym (link-stat records);
 }
 
--- the index of the same entries
-pub numbered-same : (records others : List Kept) (numbers same : BTreeMap (ℕ × ℕ) ℕ) →
-    AreNumbered records numbers → others ≡ records → IsUnchanged numbers same → AreNumbered others same
-numbered-same records others numbers same numbered is unchanged =
-    subst (λ (rs : List Kept). AreNumbered rs same) (sym is) (record {
-      few = numbered.few;
-      found = λ link. ap (λ (es : List ((ℕ × ℕ) × ℕ)). lookup
-          (λ (key : ℕ × ℕ). is_eq (by_name (link.class, link.instance) key)) es) unchanged
-          ∙ numbered.found link;
-    })
+-- one record more
+pub numbered-push : (records others : List Kept) (kept : Kept) (old new : List Link) →
+    AreNumbered records old →
+    length records < 4294967295 → others ≡ records ++ kept ∷ [] → new ≡ old ++ link_of kept ∷ [] →
+    AreNumbered others new
+numbered-push records others kept old new numbered few pushed linked = record {
+  few = omega (arith, ap length pushed, length_push records kept, few);
+  links = linked ∙ ap (λ (links : List Link). links ++ link_of kept ∷ []) numbered.links
+      ∙ sym (map-append link_of records (kept ∷ [])) ∙ ap (map link_of) (sym pushed);
+}
 
 -- whether the name of a node is held
 pub held-name : (region : Held) (records : List Kept) (nodes : List Bodied) (node : Node) (found : Option ℕ)
@@ -133,6 +87,19 @@ pub held-name : (region : Held) (records : List Kept) (nodes : List Bodied) (nod
 held-name region records nodes node found is looked =
     ap (λ (nodes : List Bodied). is_held nodes node) (sym is)
     ∙ ap is_some (place-bodied region (link_to node) records ∙ sym looked)
+
+-- it is held exactly where a record has it
+pub held-some : (region : Held) (records : List Kept) (nodes : List Bodied) (node : Node) →
+    map (bodied region) records ≡ nodes → IsTrue (is_held nodes node) →
+    IsSome (number_in records (link_to node))
+held-some region records nodes node is held =
+    subst IsTrue (held-name region records nodes node (number_in records (link_to node)) is refl) held
+
+pub some-held : (region : Held) (records : List Kept) (nodes : List Bodied) (node : Node) →
+    map (bodied region) records ≡ nodes → IsSome (number_in records (link_to node)) →
+    IsTrue (is_held nodes node)
+some-held region records nodes node is found =
+    subst IsTrue (sym (held-name region records nodes node (number_in records (link_to node)) is refl)) found
 
 cond-false : {X : Type 0} (b : Bool) (x y : X) → b ≡ false → cond b x y ≡ y
 cond-false true x y e = cc

@@ -1,3 +1,6 @@
+pub mod Positions
+pub mod Walks
+pub mod Grown
 pub mod Found
 pub mod Marking
 pub mod Bodies

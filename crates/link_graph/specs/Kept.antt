@@ -2,15 +2,12 @@
 -- spans of one region, of which no two have a byte in common.
 use Rattle.std.specs.Prelude.{◌≡◌, ℕ, ◌+◌, ◌≤◌, List, [], ◌∷◌, map, length, position, All, Option, IfSome}
 use Rattle.std.specs.Option.{option_map}
-use Rattle.std.specs.declared.cmp.Ordering.{Ordering}
-use Rattle.std.specs.Ordering.{nat_cmp, ordering_then}
-use Rattle.std.specs.BTreeMap.{BTreeMap, get}
 use Rattle.scalar_types.specs.declared.Order.{Order}
 use Rattle.type_text.specs.declared.types.Link.{Link}
 use Rattle.frame_region.specs.declared.span.Span.{Span}
 use Rattle.frame_region.specs.Region.{Held, IsLive, AreApart, bytes_of}
 use Rattle.link_graph.specs.declared.nodes.Kept.{Kept}
-use Rattle.link_graph.specs.Collected.{Bodied, Collected, is_named, without_stat_node}
+use Rattle.link_graph.specs.Collected.{Bodied, Collected, is_named, link_to, without_stat_node}
 
 -- the number of the first record kept with a link's class and instance
 abbrev pub number_in : List Kept → Link → Option ℕ
@@ -20,14 +17,14 @@ number_in records link = position (λ kept. is_named link kept.node) records
 abbrev pub without_stat_kept : Kept → Kept
 without_stat_kept kept = record { node = without_stat_node kept.node; span = kept.span }
 
--- the order of classes and instances
-abbrev pub by_name : ℕ × ℕ → ℕ × ℕ → Ordering
-by_name x y = ordering_then (nat_cmp x.0 y.0) (nat_cmp x.1 y.1)
+-- the link that leads to a record kept
+abbrev pub link_of : Kept → Link
+link_of kept = link_to kept.node
 
--- the index gives the number of each record by its class and instance
-pub record AreNumbered (records : List Kept) (numbers : BTreeMap (ℕ × ℕ) ℕ) : Type 0 where
+-- the index has the link of each record
+pub record AreNumbered (records : List Kept) (index : List Link) : Type 0 where
   pub few : length records ≤ 4294967295
-  pub found : (link : Link) → get by_name numbers (link.class, link.instance) ≡ number_in records link
+  pub links : index ≡ map link_of records
 
 -- a record with the body that its span names
 abbrev pub bodied : Held → Kept → Bodied

@@ -2,6 +2,7 @@
 pub mod Collected
 pub mod Graph
 pub mod Relinked
--- of the inside: how records, bodies and targets are kept
+-- of the inside: how records, their index, bodies and targets are kept
 pub mod Kept
+pub mod Index
 pub mod Table

@@ -3,8 +3,10 @@
 #![tactic(auto)]
 
 mod closing;
+mod index;
 mod links;
 mod nodes;
+mod plan_near;
 mod records;
 mod rows;
 mod segment;

@@ -6,8 +6,9 @@ ghost use Rattle.record_values.specs.Spelling.{IsLink};
 ghost use Rattle.layout_plan.specs.Body.{HasBody};
 ghost use Rattle.link_graph.specs.Graph.{ReadsBy, links_by, links_of, link_in};
 
+use crate::plan_near::PlanNear;
 use crate::segment::Segment;
-use layout_plan::{FieldLink, LINK_SIZE, Plan, Plans, push_links};
+use layout_plan::{FieldLink, LINK_SIZE, Plan, push_links};
 use scalar_types::{Order, Width, write_num};
 use std::alloc::AllocError;
 use type_text::Link;
@@ -16,14 +17,15 @@ impl Segment {
     /// Puts the links of a record into a list in place of those that it holds.
     pub(crate) fn read_links(
         &self,
-        plans: &Plans,
+        plans: &mut PlanNear<'_>,
         k: u32,
         links: &mut Vec<FieldLink>,
     ) -> Result<(), AllocError>
         requires node { k < length self.now.nodes }
-        requires reads { All (ReadsBy plans.now self.now.order) self.now.nodes }
+        requires reads { All (ReadsBy plans.old self.now.order) self.now.nodes }
+        ensures kept { plans.new ≡ plans.old }
         ensures links { OnOk result
-            (option_map (links_of plans.now self.now.order) (slice_get self.now.nodes k)
+            (option_map (links_of plans.old self.now.order) (slice_get self.now.nodes k)
             ≡ Some (map link_in links.new.items)) }
         ensures few { OnOk result (length links.new.items ≤ 4294967295) }
     {

@@ -1,13 +1,13 @@
 //! The records kept, in order, and found by class and instance.
 
 ghost use Rattle.std.specs.Prelude.{◌≡◌, ◌<◌, ◌≤◌, [], ◌++◌, ◌∷◌, None, Some, length, map, slice_get, OnOk};
-ghost use Rattle.std.specs.Prelude.{OnErr};
+ghost use Rattle.std.specs.Prelude.{OnErr, IsErrOf, IsSome, ◌↔◌};
 ghost use Rattle.link_graph.specs.Collected.{link_to, without_stat_root};
 ghost use Rattle.link_graph.specs.Kept.{number_in, without_stat_kept};
 
+use crate::index::{Index, PushFault};
 use crate::nodes::{Kept, Root, link_to};
-use std::alloc::{AllocError, Global};
-use std::collections::BTreeMap;
+use std::alloc::Global;
 use std::marker::Model;
 use type_text::Link;
 
@@ -15,9 +15,8 @@ use type_text::Link;
 #[derive(Drop)]
 pub struct Records {
     kept: Vec<Kept>,
-    /// The number of each record by its class and instance, in an order of these: so no file makes a search
-    /// long.
-    numbers: BTreeMap<(u16, u32), u32>,
+    /// The number of each record by its class and instance.
+    index: Index,
 }
 
 impl Model for Records {
@@ -29,7 +28,7 @@ impl Model for Records {
 
     ghost view = { λ r. r.kept.items };
 
-    ghost invariant = { λ r. AreNumbered r.kept.items r.numbers };
+    ghost invariant = { λ r. AreNumbered r.kept.items r.index };
 }
 
 impl Records {
@@ -39,7 +38,7 @@ impl Records {
     {
         Records {
             kept: Vec::new(alloc),
-            numbers: BTreeMap::new(alloc),
+            index: Index::new(alloc),
         }
     }
 
@@ -55,11 +54,12 @@ impl Records {
         self.kept.len() as u32
     }
 
-    /// The number of the record with a link's class and instance.
-    pub fn number(&self, to: Link) -> Option<u32>
+    /// The number of the record with a link's class and instance. The record after the one that is `near` is
+    /// tried first, and the one found is near from then on.
+    pub fn number(&self, to: Link, near: &mut u32) -> Option<u32>
         ensures { result ≡ number_in self.now to }
     {
-        self.numbers.get(&(to.class, to.instance)).copied()
+        self.index.number(to, near)
     }
 
     /// The record of a number.
@@ -70,27 +70,38 @@ impl Records {
         &self.kept[k as usize]
     }
 
-    /// Puts a record whose class and instance none has behind the others, which are fewer than 4,294,967,295.
-    pub fn push(&mut self, kept: Kept) -> Result<(), AllocError>
-        requires few { length self.old < 4294967295 }
-        requires free { number_in self.old (link_to kept.node) ≡ None }
+    /// Puts a record behind the others, which are fewer than 4,294,967,295. After a refusal nothing has
+    /// changed.
+    ///
+    /// # Errors
+    ///
+    /// [`PushFault::Taken`] exactly where one has its class and instance.
+    pub fn push(&mut self, kept: Kept) -> Result<(), PushFault>
+        requires { length self.old < 4294967295 }
+        ensures taken { IsErrOf result PushFault.Taken ↔ IsSome (number_in self.old (link_to kept.node)) }
         ensures ok { OnOk result (self.new ≡ self.old ++ kept ∷ []) }
         ensures err { OnErr result (self.new ≡ self.old) }
     {
         let number = self.len();
         let to = link_to(kept.node);
         if self.kept.push(kept).is_err() {
-            return Err(AllocError);
+            return Err(self.fault(to));
         }
-        if self
-            .numbers
-            .insert((to.class, to.instance), number)
-            .is_err()
-        {
+        if let Err(fault) = self.index.push(to) {
             self.kept.truncate(number as usize);
-            return Err(AllocError);
+            return Err(fault);
         }
         Ok(())
+    }
+
+    /// Why a record is not put, where there is no memory for it.
+    fn fault(&self, to: Link) -> PushFault
+        ensures { result ≡ PushFault.Taken ↔ IsSome (number_in self.now to) }
+    {
+        match self.number(to, &mut 0) {
+            Some(_) => PushFault::Taken,
+            None => PushFault::NoMemory,
+        }
     }
 
     /// Marks all static data as no roots.
@@ -105,7 +116,7 @@ impl Records {
         ensures { self.new ≡ [] }
     {
         self.kept.clear();
-        self.numbers.clear();
+        self.index.clear();
     }
 }
 

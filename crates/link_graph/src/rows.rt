@@ -8,6 +8,7 @@ ghost use Rattle.link_graph.specs.Table.{AreRows};
 
 use crate::closing::CloseFault;
 use crate::nodes::{Root, is_same};
+use crate::plan_near::PlanNear;
 use crate::segment::Segment;
 use layout_plan::{FieldLink, Plans};
 use std::alloc::{AllocError, Global};
@@ -33,9 +34,11 @@ pub fn put_rows(
         (AreRows plans.now segment.now (length segment.now.nodes) targets.new.items ends.new.items) }
 {
     let mut links = Vec::new(alloc);
+    let mut plan_near = PlanNear::new(plans);
+    let mut near = 0;
     for k in 0..segment.len() {
-        segment.read_links(plans, k, &mut links)?;
-        if let Some(link) = put_targets(segment, links.as_slice(), targets)? {
+        segment.read_links(&mut plan_near, k, &mut links)?;
+        if let Some(link) = put_targets(segment, links.as_slice(), targets, &mut near)? {
             return Err(CloseFault::LooseLink { node: k, link });
         }
         if ends.push(targets.len()).is_err() {
@@ -45,11 +48,13 @@ pub fn put_rows(
     Ok(())
 }
 
-/// Puts the targets of some links behind the others, up to the first that is loose.
+/// Puts the targets of some links behind the others, up to the first that is loose. The target found last is
+/// `near`.
 fn put_targets(
     segment: &Segment,
     links: &[FieldLink],
     targets: &mut Vec<Option<u32>>,
+    near: &mut u32,
 ) -> Result<Option<u32>, AllocError>
     requires { length links.now ≤ 4294967295 }
     ensures loose { IfOk result
@@ -60,7 +65,7 @@ fn put_targets(
 {
     for k in 0..links.len() {
         let link = links[k].link;
-        let target = segment.target(link);
+        let target = segment.target_near(link, near);
         if is_loose(link, target) {
             return Ok(Some(k as u32));
         }

@@ -7,8 +7,9 @@ ghost use Rattle.link_graph.specs.Collected.{Collected, Bodied, Becomes, nothing
 ghost use Rattle.link_graph.specs.Collected.{without_stat, target_of, is_held};
 ghost use Rattle.link_graph.specs.Relinked.{HasLinkBy, SetsLink, IsLinkOf};
 
+use crate::index::PushFault;
 use crate::links::link_bytes;
-use crate::nodes::{Kept, Node, link_to};
+use crate::nodes::{Kept, Node};
 use crate::records::Records;
 use frame_region::{Region, RegionFault, Span};
 use layout_plan::{Plans, link_start};
@@ -126,13 +127,12 @@ impl Segment {
         ensures ok { OnOk result (Becomes self.new (with_node node self.old)) }
         ensures err { OnErr result (self.new ≡ self.old) }
     {
-        if self.records.number(link_to(node)).is_some() {
-            return Err(SegmentFault::InstanceTwice);
-        }
         let number = self.records.len();
         let span = self.pending;
-        if self.records.push(Kept { node, span }).is_err() {
-            return Err(SegmentFault::NoMemory);
+        match self.records.push(Kept { node, span }) {
+            Ok(()) => {}
+            Err(PushFault::Taken) => return Err(SegmentFault::InstanceTwice),
+            Err(PushFault::NoMemory) => return Err(SegmentFault::NoMemory),
         }
         self.pending = self.region.put(&[]);
         Ok(number)
@@ -160,10 +160,18 @@ impl Segment {
     pub fn target(&self, to: Link) -> Option<u32>
         ensures { result ≡ target_of self.now.nodes to }
     {
+        self.target_near(to, &mut 0)
+    }
+
+    /// The same. The record after the one that is `near` is tried first, and the one found is near from then
+    /// on.
+    pub(crate) fn target_near(&self, to: Link, near: &mut u32) -> Option<u32>
+        ensures { result ≡ target_of self.now.nodes to }
+    {
         if to.class == 0 {
             return None;
         }
-        self.records.number(to)
+        self.records.number(to, near)
     }
 
     /// The record of a number.

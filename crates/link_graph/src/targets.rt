@@ -89,8 +89,10 @@ impl Targets {
         ensures linked { OnOk result (first_loose plans.now segment.now ≡ None) }
         ensures graph { IfOk result (λ targets. targets ≡ graph_of plans.now segment.now) }
     {
-        let mut targets = Vec::new(alloc);
-        let mut ends = Vec::new(alloc);
+        // Most records have a link, and each has an end.
+        let count = segment.len() as usize;
+        let mut targets = Vec::with_capacity(alloc, count)?;
+        let mut ends = Vec::with_capacity(alloc, count)?;
         put_rows(alloc, segment, plans, &mut targets, &mut ends)?;
         let mut roots = Vec::new(alloc);
         put_roots(segment, Root::Head, &mut roots)?;

@@ -18,5 +18,5 @@ invariant_of-self c =
     let same : take c.self.inside.kept.len (new ++ drop (length new) items) ≡ map without_stat_kept items =
     take-append-le c.self.inside.kept.len new (drop (length new) items) (omega (arith, size))
     ∙ take_all c.self.inside.kept.len new (omega (arith, size)) ∙ marked in
-    subst (λ (records : List Kept). AreNumbered records c.self.inside.numbers) (sym same)
-    (numbered-stat items c.self.inside.numbers c.self.invariant)
+    subst (λ (records : List Kept). AreNumbered records c.self.inside.index) (sym same)
+    (numbered-stat items c.self.inside.index c.self.invariant)

@@ -12,7 +12,7 @@ returns-clause-links c =
     let s = c.args.self.now in
     let node = c.node-node.result.now in
     let body = c.body-body.result.now in
-    let plan : plan_of c.args.plans.now node.class ≡ Some c.in-Some.plan.now = sym c.plan.ensures
+    let plan : plan_of c.args.plans.now node.class ≡ Some c.in-Some.plan.now = sym c.plan.ensures.plan
     ∙ ap option_copied c.in-Some.is in
     ok-map c.read_links.result
     (λ read. links-at c.args.plans.now s.order s.nodes c.args.k node body c.in-Some.plan.now _

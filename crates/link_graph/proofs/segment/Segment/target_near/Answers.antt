@@ -1,7 +1,7 @@
 use Rattle.std.proofs.Common.{ap}
 use Rattle.link_graph.specs.Collected.{Collected}
 use Rattle.link_graph.proofs.Found.{target-name}
-use Rattle.link_graph.proofs.segment.Segment.target.Goals as goal
+use Rattle.link_graph.proofs.segment.Segment.target_near.Goals as goal
 
 pub returns : goal.returns
 returns c =
