@@ -91,6 +91,7 @@ fn place_in(plan: &Plan, order: Order, body: &[u8], field: u32, ends: &mut [usiz
 }
 
 /// Finds where the varied ones among the first k fields end, in a body that spells the layout.
+#[inline(always)]
 pub fn walk_body(plan: &Plan, k: usize, order: Order, body: &[u8], ends: &mut [usize])
     requires body { HasBody order plan.now body.now }
     requires fields { k ≤ length plan.now }
