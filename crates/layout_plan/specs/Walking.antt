@@ -63,12 +63,6 @@ TellsReached order fields body k known ends (Ok w) =
     IsReached order fields body k w.at w.zero_texts × ArePlaces order fields body known ends
 TellsReached order fields body k known ends (Err fault) = fields_in order [] fields body ≡ Err fault
 
--- the same of the place after the first k fields
-abbrev pub TellsStart : Order → List Field → List ℕ → ℕ → List ℕ → ℕ → Result ℕ BodyFault → Type 0
-TellsStart order fields body k ends zero_texts (Ok at) =
-    IsReached order fields body k at zero_texts × ArePlaces order fields body k ends
-TellsStart order fields body k ends zero_texts (Err fault) = fields_in order [] fields body ≡ Err fault
-
 -- the number that a field at the front of the bytes is, where it is a single one
 abbrev pub number_at : Order → Form → List Count → List ℕ → ℕ
 number_at order (Number width) [] bytes = number order (take (size_of width) bytes)
