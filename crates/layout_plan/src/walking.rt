@@ -103,7 +103,8 @@ fn walk_in(
     })
 }
 
-/// Walks over the field of a step, after the varied fields before it.
+/// Walks over the field of a step, after the varied fields before it. Whether it repeats is read only where it
+/// counts.
 #[inline(always)]
 fn pass(
     plan: &Plan,

@@ -1,6 +1,5 @@
-use Rattle.std.proofs.Common.{◌+◌, ◌-◌, ◌≤◌, ◌∙◌, [], arith, ap, length, take, drop, get_or, refl}
-use Rattle.std.proofs.lemmas.List.{length-drop, length-take-le, take_rest}
-use Rattle.layout_plan.proofs.AppendLemmas.{Appends-none, Appends-more, Appends-as, Appends-refused}
+use Rattle.std.proofs.Common.{◌+◌, ◌-◌, [], arith, length, get_or, refl}
+use Rattle.layout_plan.proofs.AppendLemmas.{Appends-none}
 use Rattle.layout_plan.proofs.LinkLemmas.{link-within, fields-links-all}
 use Rattle.layout_plan.specs.Marks.{mark_of}
 use Rattle.layout_plan.proofs.MarkLemmas.{mark_of-later, IsLater-varied}

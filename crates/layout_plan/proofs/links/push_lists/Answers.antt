@@ -1,4 +1,4 @@
-use Rattle.std.proofs.Common.{◌+◌, ◌-◌, ◌≤◌, ◌∙◌, arith, ap, length, take, drop, get_or, refl}
+use Rattle.std.proofs.Common.{◌-◌, ◌≤◌, ◌∙◌, arith, ap, length, take, drop, refl}
 use Rattle.std.proofs.lemmas.List.{length-drop, length-take-le, take_rest}
 use Rattle.layout_plan.proofs.AppendLemmas.{Appends-none, Appends-more, Appends-as, Appends-refused}
 use Rattle.layout_plan.proofs.LinkLemmas.{link-within, link-list, link-place, fields-links-more, fields-links-all}

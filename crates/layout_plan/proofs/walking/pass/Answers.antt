@@ -4,7 +4,7 @@ use Rattle.layout_plan.specs.declared.steps.Step.{Step}
 use Rattle.layout_plan.specs.Reading.{field_in}
 use Rattle.layout_plan.specs.Spelled.{Tells}
 use Rattle.layout_plan.specs.Walking.{AreNumbers}
-use Rattle.layout_plan.proofs.PassLemmas.{step-place, step-start}
+use Rattle.layout_plan.proofs.PassLemmas.{step-start}
 use Rattle.layout_plan.proofs.ReachLemmas.{IsReached-spelled, IsReached-unspelled}
 use Rattle.layout_plan.proofs.StepLemmas.{step-there, step-amount}
 use Rattle.layout_plan.proofs.walking.pass.Goals as goal
