@@ -8,6 +8,7 @@ pub mod LentLemmas
 pub mod AppendLemmas
 pub mod LinkLemmas
 pub mod PlainLinkLemmas
+pub mod PassLemmas
 pub mod ReplaceLemmas
 pub mod FaultLemmas
 pub mod LengthLemmas

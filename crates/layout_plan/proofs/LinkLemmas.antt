@@ -33,7 +33,7 @@ use Rattle.layout_plan.specs.Lent.{IsPlaced}
 use Rattle.layout_plan.specs.Links.{links_with, field_links, HasLink, HasLinks, AreLinks, IsLinkPlaced, HasLinkAt}
 use Rattle.layout_plan.specs.Links.{is_link_form, is_link}
 use Rattle.layout_plan.specs.Marks.{numbers_where}
-use Rattle.layout_plan.specs.Walking.{ArePlaces}
+use Rattle.layout_plan.specs.Walking.{ArePlaces, AreLinkPlaces}
 use Rattle.layout_plan.proofs.ReachLemmas.{ArePlaces-fewer}
 use Rattle.layout_plan.proofs.MarkLemmas.{IsNumbered, numbers_where-at, length-numbers_where}
 use Rattle.layout_plan.proofs.ExactLemmas.{Ok-same, bytes_in-enough, link_in-exact}
@@ -477,6 +477,13 @@ pub link-places : (order : Order) (fields : List Field) (body : List ℕ) (items
 link-places order fields body items j n ends are lt all places =
     ArePlaces-fewer order fields body n (get_or items j 0 + 1) ends
     (omega (arith, link-within fields items j are lt)) places
+
+pub link-place : (order : Order) (fields : List Field) (body : List ℕ) (items : List ℕ) (j : ℕ) (ends : List ℕ)
+    → items ≡ numbers_where is_link 0 fields → j < length items → AreLinkPlaces order fields body ends
+    → ArePlaces order fields body (get_or items j 0 + 1) ends
+link-place order fields body items j ends are lt places =
+    subst (λ ns. ArePlaces order fields body (get_or ns j 0 + 1) ends) (sym are)
+    (places j (omega (arith, ap length are)))
 
 -- what is placed by them
 pub link-list : (order : Order) (fields : List Field) (body : List ℕ) (items : List ℕ) (j : ℕ) (p : Placed)

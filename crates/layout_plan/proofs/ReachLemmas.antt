@@ -311,6 +311,14 @@ IsWalked-start order fields body k ends zero_texts walked few fits = (
       | inr early ↦ walked.places.reached i early
     ]
 
+pub IsWalked-here : (order : Order) (fields : List Field) (body : List ℕ) (k : ℕ) (ends : List ℕ) (at zero_texts : ℕ)
+    → IsWalked order fields body (mark_of fields k).varied ends zero_texts → k ≤ length fields
+    → at ≡ place_of ends (mark_of fields k) → at ≤ length body
+    → IsReached order fields body k at zero_texts × ArePlaces order fields body k ends
+IsWalked-here order fields body k ends at zero_texts walked few is fits =
+    let start = IsWalked-start order fields body k ends zero_texts walked few (omega (arith, is, fits)) in
+    (subst (λ at. IsReached order fields body k at zero_texts) (sym is) start.0, start.1)
+
 -- the field before one of the same run whose place is past the body's end
 pub record IsBefore (fields : List Field) (body : List ℕ) (ends : List ℕ) (i k : ℕ) : Type 0 where
   pub some : 0 < i
@@ -384,6 +392,11 @@ end_of-set ends varied at room =
     let more : varied + 1 ≡ suc varied = omega arith in
     sym (ap (end_of (set ends varied at)) more ∙ get_or-set_same ends varied at 0 room)
 
+-- the ends before it stay
+pub end_of-stays : (ends : List ℕ) (varied at n : ℕ) → n ≤ varied → end_of (set ends varied at) n ≡ end_of ends n
+end_of-stays ends varied at zero le = refl
+end_of-stays ends varied at (suc n) le = get_or-set_other ends varied n at 0 (λ e. omega arith)
+
 -- one more varied field
 pub IsWalked-more : (order : Order) (fields : List Field) (body : List ℕ) (varied k : ℕ) (f : Field) (ends : List ℕ)
     (at zero_texts : ℕ) → slice_get fields k ≡ Some f → is_varied f ≡ true → (mark_of fields k).varied ≡ varied
@@ -422,10 +435,6 @@ IsWalked-more order fields body varied k f ends at zero_texts is passes same roo
     last : end_of (set ends varied at) (varied + 1) ≡ at
     last = ap (end_of (set ends varied at)) more ∙ get_or-set_same ends varied at 0 room
 
-    end_stays : (n : ℕ) → n ≤ varied → end_of (set ends varied at) n ≡ end_of ends n
-    end_stays zero le = refl
-    end_stays (suc n) le = get_or-set_other ends varied n at 0 (λ e. omega arith)
-
     all : (i : ℕ) → i ≤ k + 1 → (zero_texts : ℕ)
         × IsReached order fields body i (place_of (set ends varied at) (mark_of fields i)) zero_texts
     all i le = elim (cases_lt i (k + 1)) [
@@ -439,7 +448,7 @@ IsWalked-more order fields body varied k f ends at zero_texts is passes same roo
             same,
           ) in
           let stays : place_of ends (mark_of fields i) ≡ place_of (set ends varied at) (mark_of fields i) =
-          ap (λ n. n + (mark_of fields i).skip) (sym (end_stays (mark_of fields i).varied few)) in
+          ap (λ n. n + (mark_of fields i).skip) (sym (end_of-stays ends varied at (mark_of fields i).varied few)) in
           (here.0, subst (λ at. IsReached order fields body i at here.0) stays here.1)
       | inr late ↦
           let this : k + 1 ≡ i = omega arith in

@@ -4,7 +4,8 @@ use Rattle.std.proofs.Common.{List, [], ◌∷◌, ◌++◌, length, take, drop,
 use Rattle.std.proofs.Common.{Result, refl, sym, ap, ◌∙◌, subst, arith, append_assoc}
 use Rattle.std.specs.Prelude.{slice_get, option_and_then}
 use Rattle.std.specs.Option.{option_map_or}
-use Rattle.std.proofs.lemmas.List.{length-map, length-take-le, get_or-take, get_or-map, at_drop_more}
+use Rattle.std.proofs.lemmas.List.{length-map, length-take, length-take-le, get_or-take, get_or-map, get_or_default}
+use Rattle.std.proofs.lemmas.List.{at_drop_more}
 use Rattle.std.proofs.lemmas.List.Elements.{All-cons, All-tail}
 use Rattle.std.proofs.Math.Nat.{mul_assoc, mul_comm, zero-mul}
 use Rattle.scalar_types.specs.declared.Order.{Order}
@@ -100,6 +101,17 @@ steps-at fields steps k count j d are le is lt =
         ∙ ap (λ steps. get_or steps j d) are
         ∙ get_or-map (step_at fields) numbers j 0 d within
         ∙ ap (λ o. option_map_or (step_of fields (get_or numbers j 0)) o no_step) n.is
+
+pub steps-is : (fields : List Field) (steps : List Step) (k count j : ℕ) (s : Step) → steps ≡ steps_of fields
+    → k ≤ length fields → count ≡ (mark_of fields k).varied → j < length (take count steps)
+    → s ≡ get_or (take count steps) j s → s ≡ get_or (steps_of fields) j no_step
+steps-is fields steps k count j s are le is lt here =
+    let few : j < count = omega (arith, lt, steps-before fields steps k count are le is) in
+    let within : j < length steps = omega (arith, lt, length-take count steps) in
+    here
+    ∙ get_or-take count steps j s few
+    ∙ get_or_default steps j s no_step within
+    ∙ ap (λ steps. get_or steps j no_step) are
 
 -- ---- what the bytes of a varied field are
 

@@ -1,5 +1,5 @@
 -- Of the inside. The steps of a walk over the varied fields, made of the fields once.
-use Rattle.std.specs.Prelude.{◌≡◌, ◌≤◌, ℕ, Bool, true, false, if◌then◌else◌, All, ◌-◌, ◌*◌, ◌^◌, min, List, [], ◌∷◌, ◌++◌, length, map, take}
+use Rattle.std.specs.Prelude.{◌≡◌, ◌≤◌, ◌<◌, ◌+◌, slice_index_or, ℕ, Bool, true, false, if◌then◌else◌, All, ◌-◌, ◌*◌, ◌^◌, min, List, [], ◌∷◌, ◌++◌, length, map, take}
 use Rattle.std.specs.Prelude.{drop, slice_get, Option, Some, None, option_and_then}
 use Rattle.std.specs.Option.{option_map_or}
 use Rattle.std.specs.List.{list_all}
@@ -94,6 +94,10 @@ counted None n = n
 abbrev pub counter_value : Order → List ℕ → List ℕ → Counter → ℕ
 counter_value order body ends c = counted c.signed (number_by order c.width (drop (place_of ends c.mark) body))
 
+-- what counters count together, as far as it fits
+abbrev pub counted_by : Order → List ℕ → List ℕ → List Counter → ℕ
+counted_by order body ends counters = min (product_by (counter_value order body ends) counters) (2 ^ 64 - 1)
+
 -- what a step counts: bytes, or texts
 abbrev pub step_count : Order → List ℕ → List ℕ → Step → ℕ
 step_count order body ends s = s.factor * product_by (counter_value order body ends) s.counters
@@ -110,11 +114,19 @@ has_no_counts (c ∷ cs) = false
 abbrev pub is_plain : Field → Bool
 is_plain f = if is_link f then has_no_counts f.counts else true
 
+-- of each step, whether it has the counters of the step before it
+pub record AreRepeats (steps : List Step) (repeats : List Bool) : Type 0 where
+  pub many : length repeats ≡ length steps
+  pub first : slice_index_or repeats 0 false ≡ false
+  pub same : (j : ℕ) → j + 1 < length steps → slice_index_or repeats (j + 1) false ≡ true
+      → (slice_index_or steps j no_step).counters ≡ (slice_index_or steps (j + 1) no_step).counters
+
 -- what a plan keeps of its fields
-pub record ArePlanned (fields : List Field) (steps : List Step) (marks : List Mark) (links : List ℕ)
-    (plain : Bool) : Type 0 where
+pub record ArePlanned (fields : List Field) (steps : List Step) (repeats : List Bool) (marks : List Mark)
+    (links : List ℕ) (plain : Bool) : Type 0 where
   pub layout : IsLayout fields
   pub steps_are : steps ≡ steps_of fields
+  pub repeats_are : AreRepeats steps repeats
   pub marks_are : marks ≡ marks_from first_mark fields
   pub links_are : links ≡ numbers_where is_link 0 fields
   pub plain_are : plain ≡ list_all is_plain fields

@@ -1,5 +1,6 @@
 -- Of the inside. What a walk over fields tells, and what is told of a body.
 use Rattle.std.specs.Prelude.{◌≡◌, ◌+◌, ◌≤◌, ◌<◌, List, [], ℕ, Result, Ok, Err, length, take, drop, map}
+use Rattle.std.specs.Prelude.{slice_index}
 use Rattle.record_values.specs.declared.values.Value.{Value}
 use Rattle.layout_plan.specs.declared.walking.Walked.{Walked}
 use Rattle.scalar_types.specs.declared.Order.{Order}
@@ -12,7 +13,8 @@ use Rattle.layout_plan.specs.declared.faults.BodyFault.{BodyFault}
 use Rattle.layout_plan.specs.declared.faults.Measured.{Measured}
 use Rattle.layout_plan.specs.Body.{number_of, values_length, IsMeasured}
 use Rattle.layout_plan.specs.Reading.{fields_in, body_in}
-use Rattle.layout_plan.specs.Marks.{mark_of, end_of, place_of}
+use Rattle.layout_plan.specs.Links.{is_link}
+use Rattle.layout_plan.specs.Marks.{mark_of, end_of, place_of, numbers_where}
 
 -- the first k fields have values, which end at a place of the body
 pub record IsReached (order : Order) (fields : List Field) (body : List ℕ) (k at zero_texts : ℕ) : Type 0 where
@@ -27,6 +29,12 @@ pub record ArePlaces (order : Order) (fields : List Field) (body : List ℕ) (k 
   pub room : (mark_of fields k).varied ≤ length ends
   pub reached : (i : ℕ) → i ≤ k → (zero_texts : ℕ)
       × IsReached order fields body i (place_of ends (mark_of fields i)) zero_texts
+
+-- the link fields and the places after them are where their marks tell
+abbrev pub AreLinkPlaces : Order → List Field → List ℕ → List ℕ → Type 0
+AreLinkPlaces order fields body ends =
+    (j : ℕ) → j < length (numbers_where is_link 0 fields)
+    → ArePlaces order fields body (slice_index (numbers_where is_link 0 fields) j + 1) ends
 
 -- the numbers of the first k fields
 abbrev pub AreNumbers : Order → List Field → List ℕ → ℕ → List ℕ → Type 0
@@ -54,12 +62,6 @@ abbrev pub TellsReached : Order → List Field → List ℕ → ℕ → ℕ → 
 TellsReached order fields body k known ends (Ok w) =
     IsReached order fields body k w.at w.zero_texts × ArePlaces order fields body known ends
 TellsReached order fields body k known ends (Err fault) = fields_in order [] fields body ≡ Err fault
-
--- the same of the place after the first k fields
-abbrev pub TellsStart : Order → List Field → List ℕ → ℕ → List ℕ → ℕ → Result ℕ BodyFault → Type 0
-TellsStart order fields body k ends zero_texts (Ok at) =
-    IsReached order fields body k at zero_texts × ArePlaces order fields body k ends
-TellsStart order fields body k ends zero_texts (Err fault) = fields_in order [] fields body ≡ Err fault
 
 -- the number that a field at the front of the bytes is, where it is a single one
 abbrev pub number_at : Order → Form → List Count → List ℕ → ℕ

@@ -68,7 +68,7 @@ pub fn place_of(plan: &Plan, order: Order, body: &[u8], field: u32) -> Placed
     requires field { field < length plan.now }
     ensures { IsPlaced order plan.now body.now field result }
 {
-    let count = plan.mark(field as usize + 1).varied as usize;
+    let count = plan.mark(field as usize + 1).varied;
     if count <= FEWEST_FIELDS {
         place_in(plan, order, body, field, &mut [0; FEWEST_FIELDS])
     } else if count <= FEW_FIELDS {
@@ -91,6 +91,7 @@ fn place_in(plan: &Plan, order: Order, body: &[u8], field: u32, ends: &mut [usiz
 }
 
 /// Finds where the varied ones among the first k fields end, in a body that spells the layout.
+#[inline(always)]
 pub fn walk_body(plan: &Plan, k: usize, order: Order, body: &[u8], ends: &mut [usize])
     requires body { HasBody order plan.now body.now }
     requires fields { k ≤ length plan.now }

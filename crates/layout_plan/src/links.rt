@@ -1,5 +1,6 @@
 //! Links read from the bytes of a body, without its values: those of its fields in turn, and within a list those of its items.
-ghost use Rattle.std.specs.Prelude.{◌≡◌, ℕ, ◌+◌, ◌≤◌, ◌<◌, ◌++◌, List, Ok, length, drop, OnOk, OnErr};
+ghost use Rattle.std.specs.Prelude.{◌≡◌, ℕ, true, ◌+◌, ◌≤◌, ◌<◌, ◌++◌, List, Ok, length, drop, OnOk, OnErr};
+ghost use Rattle.std.specs.List.{list_all};
 ghost use Rattle.scalar_types.specs.declared.Order.{Order};
 ghost use Rattle.type_text.specs.declared.types.Link.{Link as StructLink};
 ghost use Rattle.record_values.specs.Spelling.{IsLink, AreItems};
@@ -8,7 +9,7 @@ ghost use Rattle.layout_plan.specs.Appends.{Appends};
 ghost use Rattle.layout_plan.specs.Body.{HasBody};
 ghost use Rattle.layout_plan.specs.Reading.{link_in};
 ghost use Rattle.layout_plan.specs.Marks.{mark_of};
-ghost use Rattle.layout_plan.specs.Walking.{ArePlaces};
+ghost use Rattle.layout_plan.specs.Walking.{ArePlaces, AreLinkPlaces};
 ghost use Rattle.layout_plan.specs.Links.{HasLink, HasLinkAt, HasLinkIn, IsLinkPlaced, IsReplaceable, AreLinks};
 ghost use Rattle.layout_plan.specs.Links.{links_with, HasLinks, is_link};
 ghost use Rattle.layout_plan.specs.Steps.{is_plain};
@@ -95,17 +96,32 @@ fn push_all(
     ensures { Appends (λ links. OnOk result (AreLinks order plan.now body.now links)) into.old.items
         into.new.items }
 {
-    let count = plan.steps().len();
-    if count <= FEWEST_FIELDS {
-        push_all_in(plan, order, body, into, &mut [0; FEWEST_FIELDS])
-    } else if count <= FEW_FIELDS {
-        push_all_in(plan, order, body, into, &mut [0; FEW_FIELDS])
-    } else {
-        push_all_in(plan, order, body, into, &mut [0; FIELD_LIMIT])
+    if plan.steps().len() <= FEWEST_FIELDS {
+        return push_all_in(plan, order, body, into, &mut [0; FEWEST_FIELDS]);
     }
+    push_all_many(plan, order, body, into)
+}
+
+/// The same of a plan with more varied fields.
+#[inline(never)]
+fn push_all_many(
+    plan: &Plan,
+    order: Order,
+    body: &[u8],
+    into: &mut Vec<FieldLink>,
+) -> Result<(), AllocError>
+    requires { HasBody order plan.now body.now }
+    ensures { Appends (λ links. OnOk result (AreLinks order plan.now body.now links)) into.old.items
+        into.new.items }
+{
+    if plan.steps().len() <= FEW_FIELDS {
+        return push_all_in(plan, order, body, into, &mut [0; FEW_FIELDS]);
+    }
+    push_all_in(plan, order, body, into, &mut [0; FIELD_LIMIT])
 }
 
 /// The same, with room for where each varied field ends.
+#[inline(always)]
 fn push_all_in(
     plan: &Plan,
     order: Order,
@@ -124,7 +140,50 @@ fn push_all_in(
         return Ok(());
     }
     walk_body(plan, links[count - 1] as usize + 1, order, body, ends);
-    for field in links {
+    if plan.links_are_plain() {
+        return push_plain(plan, order, body, into, ends);
+    }
+    push_lists(plan, order, body, into, ends)
+}
+
+/// Appends the links of a body, each of which is a field of its own, by the ends of the varied fields.
+fn push_plain(
+    plan: &Plan,
+    order: Order,
+    body: &[u8],
+    into: &mut Vec<FieldLink>,
+    ends: &[usize],
+) -> Result<(), AllocError>
+    requires body { HasBody order plan.now body.now }
+    requires plain { list_all is_plain plan.now ≡ true }
+    requires places { AreLinkPlaces order plan.now body.now ends.now }
+    ensures { Appends (λ links. OnOk result (AreLinks order plan.now body.now links)) into.old.items
+        into.new.items }
+{
+    for field in plan.links() {
+        let start = place_by(plan, *field as usize, ends).start;
+        into.push(FieldLink {
+            field: *field,
+            link: link_of(order, &body[start..]),
+        })?;
+    }
+    Ok(())
+}
+
+/// Appends the links of a body, of whose link fields some are lists, by the ends of the varied fields.
+fn push_lists(
+    plan: &Plan,
+    order: Order,
+    body: &[u8],
+    into: &mut Vec<FieldLink>,
+    ends: &[usize],
+) -> Result<(), AllocError>
+    requires body { HasBody order plan.now body.now }
+    requires places { AreLinkPlaces order plan.now body.now ends.now }
+    ensures { Appends (λ links. OnOk result (AreLinks order plan.now body.now links)) into.old.items
+        into.new.items }
+{
+    for field in plan.links() {
         let here = place_by(plan, *field as usize, ends);
         let rest = &body[here.start..];
         push_field(order, *field, &rest[..here.length], into)?;

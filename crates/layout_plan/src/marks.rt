@@ -12,10 +12,10 @@ use std::alloc::{AllocError, Global};
 use type_text::ItemList;
 
 /// A field's place, by the ends of the varied fields before it.
-#[derive(Clone, Copy)]
+#[derive(Clone, Copy, PartialEq)]
 pub struct Mark {
     /// How many varied fields stand before it.
-    pub varied: u32,
+    pub varied: usize,
     /// The bytes from the end of the last of these, or from the body's beginning, to the field.
     pub skip: u32,
 }

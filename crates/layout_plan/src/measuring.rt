@@ -22,17 +22,25 @@ pub fn measure(plan: &Plan, order: Order, body: &[u8]) -> Result<Measured, BodyF
     ensures measured { IfOk result (λ m. IsMeasured order plan.now body.now m.links m.zero_texts) }
     ensures fault { IfErr result (λ fault. fault_of order plan.now body.now ≡ Some fault) }
 {
-    let count = plan.steps().len();
-    if count <= FEWEST_FIELDS {
-        measure_in(plan, order, body, &mut [0; FEWEST_FIELDS])
-    } else if count <= FEW_FIELDS {
-        measure_in(plan, order, body, &mut [0; FEW_FIELDS])
-    } else {
-        measure_in(plan, order, body, &mut [0; FIELD_LIMIT])
+    if plan.steps().len() <= FEWEST_FIELDS {
+        return measure_in(plan, order, body, &mut [0; FEWEST_FIELDS]);
     }
+    measure_many(plan, order, body)
+}
+
+/// The same of a plan with more varied fields.
+#[inline(never)]
+fn measure_many(plan: &Plan, order: Order, body: &[u8]) -> Result<Measured, BodyFault>
+    ensures { TellsBody order plan.now body.now result }
+{
+    if plan.steps().len() <= FEW_FIELDS {
+        return measure_in(plan, order, body, &mut [0; FEW_FIELDS]);
+    }
+    measure_in(plan, order, body, &mut [0; FIELD_LIMIT])
 }
 
 /// The same, with room for where each varied field ends.
+#[inline(always)]
 fn measure_in(
     plan: &Plan,
     order: Order,

@@ -6,13 +6,13 @@ ghost use Rattle.std.specs.List.{list_all};
 ghost use Rattle.layout_plan.specs.Links.{is_link};
 ghost use Rattle.layout_plan.specs.Steps.{is_plain};
 ghost use Rattle.layout_plan.specs.Marks.{numbers_where, mark_of};
-ghost use Rattle.layout_plan.specs.Steps.{steps_of};
+ghost use Rattle.layout_plan.specs.Steps.{steps_of, AreRepeats};
 ghost use Rattle.layout_plan.specs.Names.{count_at, HoldsNames};
 ghost use Rattle.dictionary.specs.declared.entries.Element.{Element};
 
 use crate::links::{is_link, is_plain};
 use crate::marks::{Mark, marks_of};
-use crate::steps::{Step, steps_of};
+use crate::steps::{Step, repeats_of, steps_of};
 use crate::{Count, CountList, Field, Form};
 use dictionary::{Element, Entry};
 use indexmap::IndexMap;
@@ -33,6 +33,8 @@ pub struct Plan {
     fields: ItemList<Field>,
     /// The steps of a walk over the varied fields.
     steps: ItemList<Step>,
+    /// Of each step, whether its one counter is that of the step before it too.
+    repeats: ItemList<bool>,
     /// The mark of each field, and of the place after the last.
     marks: ItemList<Mark>,
     /// The numbers of the links.
@@ -50,7 +52,7 @@ impl Model for Plan {
 
     ghost view = { λ plan. plan.fields };
 
-    ghost invariant = { λ plan. ArePlanned plan.fields plan.steps plan.marks plan.links plan.links_are_plain };
+    ghost invariant = { λ plan. ArePlanned plan.fields plan.steps plan.repeats plan.marks plan.links plan.links_are_plain };
 }
 
 impl Plan {
@@ -68,6 +70,13 @@ impl Plan {
         ensures layout { IsLayout self.now }
     {
         self.steps.as_slice()
+    }
+
+    /// Of each step, whether its one counter is that of the step before it too.
+    pub(crate) fn repeats(&self) -> &[bool]
+        ensures { AreRepeats (steps_of self.now) result.now }
+    {
+        self.repeats.as_slice()
     }
 
     /// The mark of a field, or of the place after the last.
@@ -123,11 +132,13 @@ pub fn planned(alloc: Global, fields: ItemList<Field>) -> Result<Plan, AllocErro
 {
     let marks = marks_of(alloc, fields.as_slice())?;
     let steps = steps_of(alloc, fields.as_slice(), marks.as_slice())?;
+    let repeats = repeats_of(alloc, steps.as_slice())?;
     let links = link_numbers(alloc, fields.as_slice())?;
     let links_are_plain = are_plain(fields.as_slice());
     Ok(Plan {
         fields,
         steps,
+        repeats,
         marks,
         links,
         links_are_plain,

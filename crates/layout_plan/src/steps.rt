@@ -1,12 +1,12 @@
 //! The steps of a walk over the varied fields, made once: what each field's items are, and where the numbers
 //! stand that count them.
-ghost use Rattle.std.specs.Prelude.{◌≡◌, ◌≤◌, ◌<◌, ◌++◌, length, slice_get, All, Some, IfOk, OnOk};
+ghost use Rattle.std.specs.Prelude.{◌≡◌, true, false, ℕ, ◌+◌, slice_index_or, ◌≤◌, ◌<◌, ◌++◌, length, slice_get, All, Some, IfOk, OnOk};
 ghost use Rattle.layout_plan.specs.Layout.{AreSound, IsEarlier};
 ghost use Rattle.layout_plan.specs.declared.fields.Field.{Field};
 ghost use Rattle.layout_plan.specs.Marks.{first_mark, marks_from};
 ghost use Rattle.layout_plan.specs.Steps.{single_width, items_of, unit_of, counter_of};
 ghost use Rattle.layout_plan.specs.Steps.{counters_by, counters_of};
-ghost use Rattle.layout_plan.specs.Steps.{step_of, steps_of};
+ghost use Rattle.layout_plan.specs.Steps.{step_of, steps_of, no_step, AreRepeats};
 
 use crate::links::LINK_SIZE;
 use crate::marks::{Mark, factor_of, fixed_width};
@@ -26,7 +26,7 @@ pub enum Items {
 }
 
 /// The number of a field that a dimension names.
-#[derive(Clone, Copy)]
+#[derive(Clone, Copy, PartialEq)]
 pub struct Counter {
     /// Where it stands.
     pub mark: Mark,
@@ -46,6 +46,40 @@ pub struct Step {
     pub factor: usize,
     /// One for each of its other dimensions.
     pub counters: ItemList<Counter>,
+}
+
+/// Of each step, whether its one counter is that of the step before it too, so that it need not be read again.
+pub fn repeats_of(alloc: Global, steps: &[Step]) -> Result<ItemList<bool>, AllocError>
+    ensures { IfOk result (AreRepeats steps.now) }
+{
+    let mut repeats = ItemList::new(alloc);
+    for j in 0..steps.len() {
+        repeats.push(is_repeat(steps, j))?;
+    }
+    Ok(repeats)
+}
+
+/// Whether the one counter of step j is that of the step before it too.
+fn is_repeat(steps: &[Step], j: usize) -> bool
+    requires { j < length steps.now }
+    ensures first { j ≡ 0 → result ≡ false }
+    ensures same { (i : ℕ) → i + 1 ≡ j → result ≡ true
+        → (slice_index_or steps.now i no_step).counters ≡ (slice_index_or steps.now j no_step).counters }
+{
+    if j == 0 {
+        return false;
+    }
+    have_same_counter(&steps[j - 1], &steps[j])
+}
+
+/// Whether both have one counter, and the same.
+fn have_same_counter(a: &Step, b: &Step) -> bool
+    ensures { result ≡ true → a.now.counters ≡ b.now.counters }
+{
+    match (a.counters.as_slice(), b.counters.as_slice()) {
+        ([a], [b]) => a == b,
+        _ => false,
+    }
 }
 
 /// The steps of the varied fields, in order.

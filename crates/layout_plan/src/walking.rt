@@ -1,15 +1,15 @@
 //! A walk over the varied fields of a body. The fields of fixed width between them are passed over by the
 //! plan's marks.
-ghost use Rattle.std.specs.Prelude.{◌≡◌, ◌+◌, ◌-◌, ◌*◌, ◌≤◌, ◌<◌, ◌^◌, ℕ, List, true, min, length, Some};
+ghost use Rattle.std.specs.Prelude.{◌≡◌, [], Err, IfOk, ◌+◌, ◌-◌, ◌*◌, ◌≤◌, ◌<◌, ◌^◌, ℕ, List, true, min, length, Some};
 ghost use Rattle.scalar_types.specs.declared.Order.{Order};
 ghost use Rattle.layout_plan.specs.declared.fields.Field.{Field};
 ghost use Rattle.layout_plan.specs.Layout.{IsLayout};
-ghost use Rattle.layout_plan.specs.Reading.{field_in};
+ghost use Rattle.layout_plan.specs.Reading.{field_in, fields_in};
 ghost use Rattle.layout_plan.specs.Marks.{mark_of, end_of, place_of, fixed_width, is_varied, product_by};
 ghost use Rattle.layout_plan.specs.Spelled.{Tells};
-ghost use Rattle.layout_plan.specs.Steps.{items_of, number_by, counter_value, step_count, IsStep, HasRoom};
+ghost use Rattle.layout_plan.specs.Steps.{items_of, number_by, counter_value, counted_by, step_count, IsStep, HasRoom};
 ghost use Rattle.layout_plan.specs.Steps.{IsThere, AreThere, IsAmount};
-ghost use Rattle.layout_plan.specs.Walking.{number_at, IsWalked, HasWalked, TellsReached, TellsStart};
+ghost use Rattle.layout_plan.specs.Walking.{number_at, IsWalked, HasWalked, TellsReached};
 
 use crate::marks::Mark;
 use crate::spelled::{Spelled, capped_product, plain_at, signed_count, text_at, texts_at};
@@ -33,6 +33,8 @@ pub struct Walked {
     pub at: usize,
     /// The texts spelled by a length of 0 alone.
     pub zero_texts: u64,
+    /// What the counters of the last varied one among them count, as far as it fits.
+    pub counted: usize,
 }
 
 /// Walks over the first k fields, with room for where each varied one among them ends. Each caller has a copy of
@@ -71,28 +73,43 @@ fn walk_in(
     let mark = plan.mark(k);
     let mut at = 0;
     let mut zero_texts = 0;
-    let passed = &plan.steps()[..mark.varied as usize];
+    let mut counted = 1;
+    let repeats = plan.repeats();
+    let passed = &plan.steps()[..mark.varied];
     for (j, step) in passed.iter().enumerate() {
-        match pass(plan, step, order, body, ends, Walked { at, zero_texts }) {
+        let before = Walked {
+            at,
+            zero_texts,
+            counted,
+        };
+        match pass(plan, step, &repeats[j], order, body, ends, before) {
             Ok(walked) => {
                 at = walked.at;
                 ends[j] = at;
                 zero_texts = walked.zero_texts;
+                counted = walked.counted;
             }
             Err(fault) => return Err(fault),
         }
     }
-    match start_of(plan, k, at + mark.skip as usize, body, ends) {
-        Ok(at) => Ok(Walked { at, zero_texts }),
-        Err(fault) => Err(fault),
+    let end = at + mark.skip as usize;
+    if end > body.len() {
+        return Err(cut_fault(plan, k, body, ends));
     }
+    Ok(Walked {
+        at: end,
+        zero_texts,
+        counted,
+    })
 }
 
-/// Walks over the field of a step, after the varied fields before it.
+/// Walks over the field of a step, after the varied fields before it. Whether it repeats is read only where it
+/// counts.
 #[inline(always)]
 fn pass(
     plan: &Plan,
     step: &Step,
+    repeats: &bool,
     order: Order,
     body: &[u8],
     ends: &[usize],
@@ -100,79 +117,98 @@ fn pass(
 ) -> Result<Walked, BodyFault>
     requires layout { IsLayout plan.now }
     requires step { IsStep plan.now step.now }
+    requires repeats { repeats.now ≡ true → before.counted ≡ counted_by order body.now ends.now step.now.counters }
     requires walked { IsWalked order plan.now body.now (mark_of plan.now step.now.field).varied
         ends.now before.zero_texts }
     requires at { before.at ≡ end_of ends.now (mark_of plan.now step.now.field).varied }
-    ensures { TellsReached order plan.now body.now (step.now.field + 1) step.now.field ends.now result }
+    ensures told { TellsReached order plan.now body.now (step.now.field + 1) step.now.field ends.now result }
+    ensures counted { IfOk result (λ w. w.counted ≡ counted_by order body.now ends.now step.now.counters) }
 {
     let k = step.field as usize;
-    let start = match start_of(plan, k, before.at + step.mark.skip as usize, body, ends) {
-        Ok(start) => start,
-        Err(fault) => return Err(fault),
-    };
+    let start = before.at + step.mark.skip as usize;
+    if start > body.len() {
+        return Err(cut_fault(plan, k, body, ends));
+    }
     let rest = &body[start..];
-    match spelled_at(step, order, body, ends, rest) {
+    let (spelled, counted) = spelled_at(step, repeats, order, body, ends, rest, before.counted);
+    match spelled {
         Ok(spelled) => Ok(Walked {
             at: start + spelled.length,
             zero_texts: before.zero_texts + spelled.zero_texts,
+            counted,
         }),
         Err(reason) => Err(fault(k, reason)),
     }
 }
 
-/// The varied field of a step at the front of the bytes that are left.
+/// The varied field of a step at the front of the bytes that are left, and what its counters count. What those of
+/// the step before it count is known.
 #[inline(always)]
 fn spelled_at(
     step: &Step,
+    repeats: &bool,
     order: Order,
     body: &[u8],
     ends: &[usize],
     rest: &[u8],
-) -> Result<Spelled, BodyReason>
-    requires { AreThere body.now ends.now step.now.counters }
-    ensures { (f : Field) (numbers : List ℕ)
+    before: usize,
+) -> (Result<Spelled, BodyReason>, usize)
+    requires step { (fields : List Field) × IsStep fields step.now }
+    requires there { AreThere body.now ends.now step.now.counters }
+    requires repeats { repeats.now ≡ true → before ≡ counted_by order body.now ends.now step.now.counters }
+    ensures spelled { (f : Field) (numbers : List ℕ)
         → is_varied f ≡ true
         → step.now.items ≡ items_of f.form f.counts
         → IsAmount (step_count order body.now ends.now step.now) numbers f
-        → Tells (field_in order numbers f.form f.counts rest.now) f.form rest.now result }
+        → Tells (field_in order numbers f.form f.counts rest.now) f.form rest.now result.0 }
+    ensures counted { result.1 ≡ counted_by order body.now ends.now step.now.counters }
 {
     match step.items {
-        Items::OneText => text_at(order, rest),
-        Items::Texts => texts_at(order, count_at(step, order, body, ends), rest),
-        Items::Plain => plain_at(count_at(step, order, body, ends), rest),
+        Items::OneText => (text_at(order, rest), 1),
+        Items::Texts => {
+            let counted = count_by(step, repeats, order, body, ends, before);
+            let count = capped_product(step.factor, counted as u64, usize::MAX);
+            (texts_at(order, count, rest), counted)
+        }
+        Items::Plain => {
+            let counted = count_by(step, repeats, order, body, ends, before);
+            let length = capped_product(step.factor, counted as u64, usize::MAX);
+            (plain_at(length, rest), counted)
+        }
     }
 }
 
-/// The bytes or texts of a step, or 2^64 - 1 where that is less, by the numbers in the fields before it.
+/// What the counters of a step count together, or 2^64 - 1 where that is less, by the numbers in the fields before
+/// it.
 #[inline(always)]
-fn count_at(step: &Step, order: Order, body: &[u8], ends: &[usize]) -> usize
-    requires { AreThere body.now ends.now step.now.counters }
-    ensures { result ≡ min (step_count order body.now ends.now step.now) (2 ^ 64 - 1) }
-{
-    let counters = step.counters.as_slice();
-    if counters.len() == 1 {
-        return capped_product(
-            step.factor,
-            extent_at(order, body, ends, &counters[0]),
-            usize::MAX,
-        );
-    }
-    product_at(step.factor, counters, order, body, ends)
-}
-
-/// The product of a factor and what the counters count, or 2^64 - 1 where that is less.
-fn product_at(
-    factor: usize,
-    counters: &[Counter],
+fn count_by(
+    step: &Step,
+    repeats: &bool,
     order: Order,
     body: &[u8],
     ends: &[usize],
+    before: usize,
 ) -> usize
-    requires { AreThere body.now ends.now counters.now }
-    ensures { result
-        ≡ min (factor * product_by (counter_value order body.now ends.now) counters.now) (2 ^ 64 - 1) }
+    requires there { AreThere body.now ends.now step.now.counters }
+    requires repeats { repeats.now ≡ true → before ≡ counted_by order body.now ends.now step.now.counters }
+    ensures { result ≡ counted_by order body.now ends.now step.now.counters }
 {
-    let mut count = factor;
+    if *repeats {
+        return before;
+    }
+    let counters = step.counters.as_slice();
+    if counters.len() == 1 {
+        return extent_at(order, body, ends, &counters[0]) as usize;
+    }
+    product_by(counters, order, body, ends)
+}
+
+/// The same of any number of counters.
+fn product_by(counters: &[Counter], order: Order, body: &[u8], ends: &[usize]) -> usize
+    requires { AreThere body.now ends.now counters.now }
+    ensures { result ≡ counted_by order body.now ends.now counters.now }
+{
+    let mut count = 1;
     for counter in counters {
         if count == 0 {
             return 0;
@@ -216,33 +252,22 @@ pub fn number_at(order: Order, field: &Field, bytes: &[u8]) -> u64
     number_by(order, single_width(field), bytes)
 }
 
-/// The place where field k begins, or the fields end, after a walk over the varied fields before it. All
-/// fields before it must be whole.
-#[inline(always)]
-fn start_of(
-    plan: &Plan,
-    k: usize,
-    at: usize,
-    body: &[u8],
-    ends: &[usize],
-) -> Result<usize, BodyFault>
+/// The fault where field k begins, or the fields end, after the body's end: at the field that this end cuts.
+#[cold]
+#[inline(never)]
+fn cut_fault(plan: &Plan, k: usize, body: &[u8], ends: &[usize]) -> BodyFault
     requires layout { IsLayout plan.now }
     requires field { k ≤ length plan.now }
     requires walked { HasWalked plan.now body.now (mark_of plan.now k).varied ends.now }
-    requires at { at ≡ place_of ends.now (mark_of plan.now k) }
+    requires after { length body.now < place_of ends.now (mark_of plan.now k) }
     ensures { (order : Order) (zero_texts : ℕ)
         → IsWalked order plan.now body.now (mark_of plan.now k).varied ends.now zero_texts
-        → TellsStart order plan.now body.now k ends.now zero_texts result }
+        → fields_in order [] plan.now body.now ≡ Err result }
 {
-    if at <= body.len() {
-        return Ok(at);
-    }
-    Err(fault(cut_field(plan, k, body, ends), BodyReason::BodyShort))
+    fault(cut_field(plan, k, body, ends), BodyReason::BodyShort)
 }
 
 /// The field before field k that the body's end cuts, where k begins after that end.
-#[cold]
-#[inline(never)]
 fn cut_field(plan: &Plan, k: usize, body: &[u8], ends: &[usize]) -> usize
     requires field { k ≤ length plan.now }
     requires walked { HasWalked plan.now body.now (mark_of plan.now k).varied ends.now }
@@ -268,7 +293,7 @@ pub fn place(mark: Mark, ends: &[usize]) -> usize
     let end = if mark.varied == 0 {
         0
     } else {
-        ends[mark.varied as usize - 1]
+        ends[mark.varied - 1]
     };
     end + mark.skip as usize
 }

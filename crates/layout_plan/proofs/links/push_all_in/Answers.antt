@@ -1,98 +1,10 @@
-use Rattle.std.proofs.Common.{◌+◌, ◌-◌, ◌≤◌, ◌∙◌, [], arith, ap, length, take, drop, get_or, refl}
-use Rattle.std.proofs.lemmas.List.{length-drop, length-take-le, take_rest}
-use Rattle.layout_plan.proofs.AppendLemmas.{Appends-none, Appends-more, Appends-as, Appends-refused}
-use Rattle.layout_plan.proofs.LinkLemmas.{link-within, link-list, fields-links-more, fields-links-all}
+use Rattle.std.proofs.Common.{◌+◌, ◌-◌, [], arith, length, get_or, refl}
+use Rattle.layout_plan.proofs.AppendLemmas.{Appends-none}
+use Rattle.layout_plan.proofs.LinkLemmas.{link-within, fields-links-all}
 use Rattle.layout_plan.specs.Marks.{mark_of}
 use Rattle.layout_plan.proofs.MarkLemmas.{mark_of-later, IsLater-varied}
-use Rattle.layout_plan.proofs.PlainLinkLemmas.{link-places-last}
+use Rattle.layout_plan.proofs.PlainLinkLemmas.{link-places-all}
 use Rattle.layout_plan.proofs.links.push_all_in.Goals as goal
-
-pub place_by-here-requires-clause-field : goal.place_by-here-requires-clause-field
-place_by-here-requires-clause-field c =
-    link-within c.args.plan.now c.links-links.result.now c.loop-field.field-index c.links-links.ensures
-    c.loop-field-test.true
-
-pub place_by-here-requires-clause-places : goal.place_by-here-requires-clause-places
-place_by-here-requires-clause-places c = (
-  c.args.order,
-  c.args.body.now,
-  link-places-last c.args.order c.args.plan.now c.args.body.now c.links-links.result.now c.loop-field.field-index
-      c.walk_body.new.ends c.links-links.ensures c.loop-field-test.true c.walk_body.ensures,
-  omega arith,
-)
-
-pub slice_bounds-rest-count : goal.slice_bounds-rest-count
-slice_bounds-rest-count c =
-    let items = c.links-links.result.now in
-    let j = c.loop-field.field-index in
-    let places = link-places-last c.args.order c.args.plan.now c.args.body.now items j
-    c.walk_body.new.ends c.links-links.ensures c.loop-field-test.true
-    c.walk_body.ensures in
-    let list = link-list c.args.order c.args.plan.now c.args.body.now items j c.place_by-here.result
-    c.links-links.ensures c.loop-field-test.true
-    (c.place_by-here.ensures c.args.order c.args.body.now places) in
-    omega (arith, list.within)
-
-pub slice_bounds-rest-start : goal.slice_bounds-rest-start
-slice_bounds-rest-start c =
-    let items = c.links-links.result.now in
-    let j = c.loop-field.field-index in
-    let places = link-places-last c.args.order c.args.plan.now c.args.body.now items j
-    c.walk_body.new.ends c.links-links.ensures c.loop-field-test.true
-    c.walk_body.ensures in
-    let list = link-list c.args.order c.args.plan.now c.args.body.now items j c.place_by-here.result
-    c.links-links.ensures c.loop-field-test.true
-    (c.place_by-here.ensures c.args.order c.args.body.now places) in
-    omega (arith, list.within)
-
-pub slice_bounds-push_field-end : goal.slice_bounds-push_field-end
-slice_bounds-push_field-end c =
-    let items = c.links-links.result.now in
-    let j = c.loop-field.field-index in
-    let places = link-places-last c.args.order c.args.plan.now c.args.body.now items j
-    c.walk_body.new.ends c.links-links.ensures c.loop-field-test.true
-    c.walk_body.ensures in
-    let list = link-list c.args.order c.args.plan.now c.args.body.now items j c.place_by-here.result
-    c.links-links.ensures c.loop-field-test.true
-    (c.place_by-here.ensures c.args.order c.args.body.now places) in
-    let size = ap length (take_rest c.args.body.now c.place_by-here.result.start)
-    ∙ length-drop c.place_by-here.result.start c.args.body.now in
-    let room : c.place_by-here.result.length
-    ≤ length (take (length c.args.body.now - c.place_by-here.result.start)
-    (drop c.place_by-here.result.start c.args.body.now)) = omega (arith, list.within, size) in
-    omega (
-      arith,
-      room,
-      length-take-le c.place_by-here.result.length
-          (take (length c.args.body.now - c.place_by-here.result.start)
-          (drop c.place_by-here.result.start c.args.body.now)) room,
-    )
-
-pub loop-field-preserved : goal.loop-field-preserved
-loop-field-preserved c =
-    let items = c.links-links.result.now in
-    let j = c.loop-field.field-index in
-    let places = link-places-last c.args.order c.args.plan.now c.args.body.now items j
-    c.walk_body.new.ends c.links-links.ensures c.loop-field-test.true
-    c.walk_body.ensures in
-    let list = link-list c.args.order c.args.plan.now c.args.body.now items j c.place_by-here.result
-    c.links-links.ensures c.loop-field-test.true
-    (c.place_by-here.ensures c.args.order c.args.body.now places) in
-    Appends-more _ _ _ _ c.loop-field.into.items _ c.loop-field.invariant c.in_ok-push_field.ensures
-    (λ xs ys r s. fields-links-more c.args.order c.args.plan.now c.args.body.now items j c.place_by-here.result
-    (length c.args.body.now - c.place_by-here.result.start) xs ys c.loop-field-test.true list r s
-    (omega (arith, list.within)))
-
-pub returns-in_err-push_field : goal.returns-in_err-push_field
-returns-in_err-push_field c =
-    Appends-refused _ _ _ _ _ c.loop-field.into.items _ c.from_residual.ensures.0 c.loop-field.invariant
-    c.push_field.ensures
-
-pub returns : goal.returns
-returns c =
-    Appends-as _ _ _ _ c.loop-field.invariant
-    (λ xs r. fields-links-all c.args.order c.args.plan.now c.args.body.now c.links-links.result.now
-    c.loop-field.field-index xs c.links-links.ensures c.loop-field-test.false r)
 
 pub walk_body-requires-clause-fields : goal.walk_body-requires-clause-fields
 walk_body-requires-clause-fields c =
@@ -116,11 +28,18 @@ walk_body-requires-clause-room c =
           (mark_of-later c.args.plan.now last (length c.args.plan.now) (omega (arith, within))),
     )
 
-pub loop-field-init : goal.loop-field-init
-loop-field-init c = Appends-none _ _ (λ values tail body. refl)
-
 pub returns-then-count-eq0 : goal.returns-then-count-eq0
 returns-then-count-eq0 c =
     Appends-none _ _
     (fields-links-all c.args.order c.args.plan.now c.args.body.now c.links-links.result.now 0 [] c.links-links.ensures
     (omega (arith, c.if-count-eq0.true)) (λ values tail body. refl))
+
+pub push_plain-requires-clause-places : goal.push_plain-requires-clause-places
+push_plain-requires-clause-places c =
+    link-places-all c.args.order c.args.plan.now c.args.body.now c.links-links.result.now c.walk_body.new.ends
+    c.links-links.ensures c.walk_body.ensures
+
+pub push_lists-requires-clause-places : goal.push_lists-requires-clause-places
+push_lists-requires-clause-places c =
+    link-places-all c.args.order c.args.plan.now c.args.body.now c.links-links.result.now c.walk_body.new.ends
+    c.links-links.ensures c.walk_body.ensures
