@@ -62,7 +62,7 @@ fn has_size(elements: &[Element], name: &[u8]) -> bool
 }
 
 /// The base of an element that reads and has no dimension.
-fn single_base(element: &Element) -> Option<&Base>
+pub fn single_base(element: &Element) -> Option<&Base>
     ensures { option_copied result ≡ single_base element.now }
 {
     let ty = element.ty.as_ref()?;

@@ -66,7 +66,7 @@ stand-more order file b [] last item stand may =
 stand-more order file b (first ∷ items) last item stand may =
     (stand.0, stand-more order file (after order b first) items last item stand.1 may)
 
-begins-more : (file : List ℕ) (order : Order) (items : List Item) (last : Before) (item : Item)
+pub begins-more : (file : List ℕ) (order : Order) (items : List Item) (last : Before) (item : Item)
     → Begins file order items last → MayStand order file last item
     → Begins file order (items ++ item ∷ []) (after order last item)
 begins-more file order items last item begins may =

@@ -8,9 +8,10 @@ use Rattle.std.proofs.lemmas.List.{length-append, length-drop, take-take, length
 use Rattle.std.proofs.lemmas.List.{take-append-drop, length-map, map-append}
 use Rattle.scalar_types.specs.declared.Order.{Order}
 use Rattle.scalar_types.specs.declared.Width.{Width}
+use Rattle.type_text.specs.declared.types.Link.{Link as StructLink}
 use Rattle.record_values.specs.declared.values.Value.{Value}
 use Rattle.record_values.specs.declared.values.Value.TheVariants as value
-use Rattle.layout_plan.specs.declared.fields.Form.TheVariants.{Number, Text}
+use Rattle.layout_plan.specs.declared.fields.Form.TheVariants.{Number, Text, Link}
 use Rattle.layout_plan.specs.declared.fields.Count.{Count}
 use Rattle.layout_plan.specs.declared.fields.Count.TheVariants.{Fixed, Of, OfSigned}
 use Rattle.layout_plan.specs.declared.fields.Field.{Field}
@@ -20,9 +21,9 @@ use Rattle.layout_plan.specs.declared.walking.Walked.{Walked}
 use Rattle.layout_plan.specs.declared.lent.Placed.{Placed}
 use Rattle.layout_plan.specs.Layout.{AreSound, IsEarlier}
 use Rattle.layout_plan.specs.Body.{number_of, AreFields, IsBody, HasBody}
-use Rattle.layout_plan.specs.Reading.{number_in, text_in, field_in, fields_in, ended, body_in}
+use Rattle.layout_plan.specs.Reading.{number_in, text_in, link_in, field_in, fields_in, ended, body_in}
 use Rattle.layout_plan.specs.Walking.{number_at, IsReached, TellsReached}
-use Rattle.layout_plan.specs.Lent.{HasNumberAt, HasTextAt, IsNumberField, IsTextField, IsPlaced}
+use Rattle.layout_plan.specs.Lent.{HasNumberAt, HasTextAt, HasPlainLinkAt, IsNumberField, IsTextField, IsLinkField, IsPlaced}
 use Rattle.record_values.specs.Spelling.{IsText}
 use Rattle.layout_plan.proofs.ExactLemmas.{Ok-same, and_then-Ok, found_map-Ok, text_in-exact}
 use Rattle.layout_plan.proofs.BodyLemmas.{field_in-exact, fields_in-exact, body_in-again, ended-tail, IsField-earlier}
@@ -218,6 +219,22 @@ number-here order fields bytes k n f p (width, single) placed at number_is value
     ∙ ap Some (number_in-here order placed.numbers width placed.field (drop p.start bytes)
     (drop (p.start + p.length) bytes) placed.value (ap (λ (f : Field). f.form) same ∙ single.form_is)
     (ap (λ (f : Field). f.counts) same ∙ single.single) placed.found ∙ ap value.Num number)
+
+-- a link without dimension
+pub plain-link-here : (order : Order) (fields : List Field) (bytes : List ℕ) (k : ℕ) (p : Placed)
+    → IsLinkField fields k → IsPlaced order fields bytes k p
+    → (link : StructLink) × (link_in order (drop p.start bytes) ≡ Ok (link, drop (p.start + p.length) bytes))
+    × HasPlainLinkAt order fields bytes k link
+plain-link-here order fields bytes k p single placed =
+    let same = same_Some placed.field single.field (sym placed.is ∙ single.is) in
+    let form = ap (λ (f : Field). f.form) same ∙ single.form_is in
+    let counts = ap (λ (f : Field). f.counts) same ∙ single.single in
+    let m = found_map-Ok value.Link (link_in order (drop p.start bytes))
+    (placed.value, drop (p.start + p.length) bytes)
+    (sym (λ i. field_in order placed.numbers (form i) (counts i) (drop p.start bytes)) ∙ placed.found) in
+    let rest : m.0.1 ≡ drop (p.start + p.length) bytes = ap (λ (z : Value × List ℕ). z.1) m.2 in
+    let is : value.Link m.0.0 ≡ placed.value = ap (λ (z : Value × List ℕ). z.0) m.2 in
+    (m.0.0, m.1 ∙ ap (λ r. Ok (m.0.0, r)) rest, λ values tail body. placed.here values tail body ∙ ap Some (sym is))
 
 -- a text stands between its length and its closing zero byte
 text-bytes : (order : Order) (text front : List ℕ) → IsText order text front

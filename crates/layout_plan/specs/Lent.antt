@@ -2,10 +2,11 @@
 use Rattle.std.specs.Prelude.{◌≡◌, ℕ, ◌+◌, ◌≤◌, List, [], map, take, drop, length, slice_get, Some, Ok}
 use Rattle.scalar_types.specs.declared.Order.{Order}
 use Rattle.scalar_types.specs.declared.Width.{Width}
+use Rattle.type_text.specs.declared.types.Link.{Link as StructLink}
 use Rattle.record_values.specs.declared.values.Value.{Value}
 use Rattle.record_values.specs.declared.values.Value.TheVariants as value
 use Rattle.layout_plan.specs.declared.fields.Form.{Form}
-use Rattle.layout_plan.specs.declared.fields.Form.TheVariants.{Number, Text}
+use Rattle.layout_plan.specs.declared.fields.Form.TheVariants.{Number, Text, Link}
 use Rattle.layout_plan.specs.declared.fields.Field.{Field}
 use Rattle.layout_plan.specs.declared.lent.Placed.{Placed}
 use Rattle.layout_plan.specs.Body.{number_of, AreFields, IsBody}
@@ -28,6 +29,9 @@ HasNumberAt order fields bytes k n = HasValueAt order fields bytes k (value.Num 
 abbrev pub HasTextAt : Order → List Field → List ℕ → ℕ → List ℕ → Type 0
 HasTextAt order fields bytes k text = HasValueAt order fields bytes k (value.Text text)
 
+abbrev pub HasPlainLinkAt : Order → List Field → List ℕ → ℕ → StructLink → Type 0
+HasPlainLinkAt order fields bytes k link = HasValueAt order fields bytes k (value.Link link)
+
 -- field k is a single item of this form
 pub record IsSingleField (fields : List Field) (k : ℕ) (form : Form) : Type 0 where
   pub field : Field
@@ -43,6 +47,10 @@ IsNumberField fields k =
 -- field k is a text without dimension
 abbrev pub IsTextField : List Field → ℕ → Type 0
 IsTextField fields k = IsSingleField fields k Text
+
+-- field k is a link without dimension
+abbrev pub IsLinkField : List Field → ℕ → Type 0
+IsLinkField fields k = IsSingleField fields k Link
 
 -- what is told of field k
 pub record IsPlaced (order : Order) (fields : List Field) (bytes : List ℕ) (k : ℕ) (p : Placed) : Type 0 where

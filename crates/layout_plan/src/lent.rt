@@ -5,10 +5,13 @@ ghost use Rattle.layout_plan.specs.Body.{HasBody};
 ghost use Rattle.layout_plan.specs.Marks.{mark_of};
 ghost use Rattle.layout_plan.specs.Walking.{ArePlaces};
 ghost use Rattle.layout_plan.specs.Lent.{EndsAt, HasNumberAt, HasTextAt, IsNumberField, IsTextField, IsPlaced};
+ghost use Rattle.layout_plan.specs.Lent.{HasPlainLinkAt, IsLinkField};
 
 use crate::Plan;
+use crate::links::link_of;
 use crate::walking::{FEW_FIELDS, FEWEST_FIELDS, FIELD_LIMIT, number_at, place, walk};
 use scalar_types::Order;
+use type_text::Link;
 
 /// A field's place in a body.
 #[derive(Clone, Copy)]
@@ -50,6 +53,17 @@ pub fn text_at<'a>(plan: &Plan, order: Order, body: &'a [u8], field: u32) -> &'a
 {
     let placed = place_of(plan, order, body, field);
     text_of(&body[placed.start..placed.start + placed.length])
+}
+
+/// The link of a field without dimension, in a body that spells the layout. Takes no memory.
+pub fn plain_link_at(plan: &Plan, order: Order, body: &[u8], field: u32) -> Link
+    requires body { HasBody order plan.now body.now }
+    requires field { field < length plan.now }
+    requires link { IsLinkField plan.now field }
+    ensures { HasPlainLinkAt order plan.now body.now field result }
+{
+    let start = place_of(plan, order, body, field).start;
+    link_of(order, &body[start..])
 }
 
 /// The text of a spelling, without its length and its closing zero byte.

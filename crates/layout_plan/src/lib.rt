@@ -24,7 +24,7 @@ pub use built_in::{element_plan, structure_plan};
 pub use faults::{BodyFault, BodyReason, Measured};
 pub use fields::{Count, CountList, Field, Form};
 pub use laws::{bodies_have_one_answer, faults_are_told, layouts_are_sound, lengths_are_told};
-pub use lent::{num_at, span_of, text_at};
+pub use lent::{num_at, plain_link_at, span_of, text_at};
 pub use links::{FieldLink, LINK_SIZE, link_at, link_field, link_start, push_links};
 pub use measuring::{TAIL_SIZE, measure};
 pub use plan::{Plan, compile};

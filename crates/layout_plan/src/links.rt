@@ -282,7 +282,7 @@ pub fn is_plain(field: &Field) -> bool
 }
 
 /// The link at the front of the bytes.
-fn link_of(order: Order, bytes: &[u8]) -> Link
+pub fn link_of(order: Order, bytes: &[u8]) -> Link
     requires { 6 ≤ length bytes.now }
     ensures { link_in order bytes.now ≡ Ok (result, drop 6 bytes.now) }
 {
