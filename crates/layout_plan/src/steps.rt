@@ -1,7 +1,7 @@
 //! The steps of a walk over the varied fields, made once: what each field's items are, and where the numbers
 //! stand that count them.
-ghost use Rattle.std.specs.Prelude.{◌≡◌, ◌≤◌, ◌<◌, ℕ, ◌+◌, ◌++◌, true, false, length, slice_get, slice_index_or, All};
-ghost use Rattle.std.specs.Prelude.{Some, IfOk, OnOk};
+ghost use Rattle.std.specs.Prelude.{◌≡◌, ◌≤◌, ◌<◌, ℕ, ◌+◌, ◌++◌, true, false, length, slice_get, All};
+ghost use Rattle.std.specs.Prelude.{slice_index_or, Some, IfOk, OnOk};
 ghost use Rattle.layout_plan.specs.Layout.{AreSound, IsEarlier};
 ghost use Rattle.layout_plan.specs.declared.fields.Field.{Field};
 ghost use Rattle.layout_plan.specs.Marks.{first_mark, marks_from};

@@ -1,7 +1,7 @@
 //! A walk over the varied fields of a body. The fields of fixed width between them are passed over by the
 //! plan's marks.
-ghost use Rattle.std.specs.Prelude.{◌≡◌, ◌+◌, ◌-◌, ◌*◌, ◌≤◌, ◌<◌, ◌^◌, ℕ, List, [], true, min, length, Some, Err};
-ghost use Rattle.std.specs.Prelude.{IfOk};
+ghost use Rattle.std.specs.Prelude.{◌≡◌, ◌+◌, ◌-◌, ◌*◌, ◌≤◌, ◌<◌, ◌^◌, ℕ, List, [], true, min, length, Some};
+ghost use Rattle.std.specs.Prelude.{Err, IfOk};
 ghost use Rattle.scalar_types.specs.declared.Order.{Order};
 ghost use Rattle.layout_plan.specs.declared.fields.Field.{Field};
 ghost use Rattle.layout_plan.specs.Layout.{IsLayout};
@@ -144,8 +144,8 @@ fn pass(
     }
 }
 
-/// The varied field of a step at the front of the bytes that are left, and what its counters count. What those
-/// of the step before it count is known.
+/// The varied field of a step at the front of the bytes that are left, and what its counters count. What
+/// those of the step before it count is known.
 #[inline(always)]
 fn spelled_at(
     step: &Step,
