@@ -1,5 +1,6 @@
 -- Plans whose links stand each in a field of its own, and the last of the link fields.
-use Rattle.std.proofs.Common.{◌≡◌, ℕ, zero, suc, ◌*◌, drop, Ok, Some, sym, subst, ◌+◌, ◌-◌, ◌<◌, ◌≤◌, Bool, true, false, cond, get_or, List, [], ◌∷◌, ◌++◌, length}
+use Rattle.std.proofs.Common.{◌≡◌, ℕ, zero, suc, ◌+◌, ◌-◌, ◌*◌, ◌<◌, ◌≤◌, Bool, true, false, cond, get_or, List, []}
+use Rattle.std.proofs.Common.{◌∷◌, ◌++◌, length, drop, Ok, Some, sym, subst}
 use Rattle.std.proofs.Common.{take, map, count_by, refl, ap, ◌∙◌, arith, inl, inr}
 use Rattle.std.specs.Prelude.{◌&&◌, slice_get}
 use Rattle.std.specs.List.{list_all, flat_map}

@@ -1,5 +1,6 @@
 -- Of the inside. The steps of a walk over the varied fields, made of the fields once.
-use Rattle.std.specs.Prelude.{◌≡◌, ◌≤◌, ◌<◌, ◌+◌, slice_index_or, ℕ, Bool, true, false, if◌then◌else◌, All, ◌-◌, ◌*◌, ◌^◌, min, List, [], ◌∷◌, ◌++◌, length, map, take}
+use Rattle.std.specs.Prelude.{◌≡◌, ◌≤◌, ◌<◌, ℕ, Bool, true, false, if◌then◌else◌, All, ◌+◌, ◌-◌, ◌*◌, ◌^◌, min, List, []}
+use Rattle.std.specs.Prelude.{◌∷◌, ◌++◌, length, map, take, slice_index_or}
 use Rattle.std.specs.Prelude.{drop, slice_get, Option, Some, None, option_and_then}
 use Rattle.std.specs.Option.{option_map_or}
 use Rattle.std.specs.List.{list_all}

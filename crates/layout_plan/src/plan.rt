@@ -52,7 +52,8 @@ impl Model for Plan {
 
     ghost view = { λ plan. plan.fields };
 
-    ghost invariant = { λ plan. ArePlanned plan.fields plan.steps plan.repeats plan.marks plan.links plan.links_are_plain };
+    ghost invariant = { λ plan. ArePlanned plan.fields plan.steps plan.repeats plan.marks plan.links
+        plan.links_are_plain };
 }
 
 impl Plan {

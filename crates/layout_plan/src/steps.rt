@@ -1,6 +1,7 @@
 //! The steps of a walk over the varied fields, made once: what each field's items are, and where the numbers
 //! stand that count them.
-ghost use Rattle.std.specs.Prelude.{◌≡◌, true, false, ℕ, ◌+◌, slice_index_or, ◌≤◌, ◌<◌, ◌++◌, length, slice_get, All, Some, IfOk, OnOk};
+ghost use Rattle.std.specs.Prelude.{◌≡◌, ◌≤◌, ◌<◌, ℕ, ◌+◌, ◌++◌, true, false, length, slice_get, All};
+ghost use Rattle.std.specs.Prelude.{slice_index_or, Some, IfOk, OnOk};
 ghost use Rattle.layout_plan.specs.Layout.{AreSound, IsEarlier};
 ghost use Rattle.layout_plan.specs.declared.fields.Field.{Field};
 ghost use Rattle.layout_plan.specs.Marks.{first_mark, marks_from};
@@ -48,7 +49,7 @@ pub struct Step {
     pub counters: ItemList<Counter>,
 }
 
-/// Of each step, whether its one counter is that of the step before it too, so that it need not be read again.
+/// Of each step, whether its one counter is that of the step before it too, and need not be read again.
 pub fn repeats_of(alloc: Global, steps: &[Step]) -> Result<ItemList<bool>, AllocError>
     ensures { IfOk result (AreRepeats steps.now) }
 {

@@ -1,13 +1,15 @@
 //! A walk over the varied fields of a body. The fields of fixed width between them are passed over by the
 //! plan's marks.
-ghost use Rattle.std.specs.Prelude.{◌≡◌, [], Err, IfOk, ◌+◌, ◌-◌, ◌*◌, ◌≤◌, ◌<◌, ◌^◌, ℕ, List, true, min, length, Some};
+ghost use Rattle.std.specs.Prelude.{◌≡◌, ◌+◌, ◌-◌, ◌*◌, ◌≤◌, ◌<◌, ◌^◌, ℕ, List, [], true, min, length, Some};
+ghost use Rattle.std.specs.Prelude.{Err, IfOk};
 ghost use Rattle.scalar_types.specs.declared.Order.{Order};
 ghost use Rattle.layout_plan.specs.declared.fields.Field.{Field};
 ghost use Rattle.layout_plan.specs.Layout.{IsLayout};
 ghost use Rattle.layout_plan.specs.Reading.{field_in, fields_in};
 ghost use Rattle.layout_plan.specs.Marks.{mark_of, end_of, place_of, fixed_width, is_varied, product_by};
 ghost use Rattle.layout_plan.specs.Spelled.{Tells};
-ghost use Rattle.layout_plan.specs.Steps.{items_of, number_by, counter_value, counted_by, step_count, IsStep, HasRoom};
+ghost use Rattle.layout_plan.specs.Steps.{items_of, number_by, counter_value, counted_by, step_count, IsStep};
+ghost use Rattle.layout_plan.specs.Steps.{HasRoom};
 ghost use Rattle.layout_plan.specs.Steps.{IsThere, AreThere, IsAmount};
 ghost use Rattle.layout_plan.specs.Walking.{number_at, IsWalked, HasWalked, TellsReached};
 
@@ -103,8 +105,8 @@ fn walk_in(
     })
 }
 
-/// Walks over the field of a step, after the varied fields before it. Whether it repeats is read only where it
-/// counts.
+/// Walks over the field of a step, after the varied fields before it. Whether it repeats is read only where
+/// it counts.
 #[inline(always)]
 fn pass(
     plan: &Plan,
@@ -117,7 +119,8 @@ fn pass(
 ) -> Result<Walked, BodyFault>
     requires layout { IsLayout plan.now }
     requires step { IsStep plan.now step.now }
-    requires repeats { repeats.now ≡ true → before.counted ≡ counted_by order body.now ends.now step.now.counters }
+    requires repeats { repeats.now ≡ true
+        → before.counted ≡ counted_by order body.now ends.now step.now.counters }
     requires walked { IsWalked order plan.now body.now (mark_of plan.now step.now.field).varied
         ends.now before.zero_texts }
     requires at { before.at ≡ end_of ends.now (mark_of plan.now step.now.field).varied }
@@ -141,8 +144,8 @@ fn pass(
     }
 }
 
-/// The varied field of a step at the front of the bytes that are left, and what its counters count. What those of
-/// the step before it count is known.
+/// The varied field of a step at the front of the bytes that are left, and what its counters count. What
+/// those of the step before it count is known.
 #[inline(always)]
 fn spelled_at(
     step: &Step,
@@ -178,8 +181,8 @@ fn spelled_at(
     }
 }
 
-/// What the counters of a step count together, or 2^64 - 1 where that is less, by the numbers in the fields before
-/// it.
+/// What the counters of a step count together, or 2^64 - 1 where that is less, by the numbers in the fields
+/// before it.
 #[inline(always)]
 fn count_by(
     step: &Step,
