@@ -1,0 +1,12 @@
+use Rattle.std.proofs.Common.{arith}
+use Rattle.contents_table.proofs.ElementFields.{named-within}
+use Rattle.contents_table.proofs.layouts.next_field.Goals as goal
+
+pub overflow_cast-result : goal.overflow_cast-result
+overflow_cast-result c =
+    omega (
+      arith,
+      c.requires,
+      named-within c.args.elements.now _ c.in_ok-i.i c.in_ok-i.element.now
+          c.in_ok-i.ensures,
+    )

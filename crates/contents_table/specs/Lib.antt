@@ -1,0 +1,9 @@
+pub mod Channels
+pub mod Layouts
+pub mod Fit
+pub mod Built
+pub mod Kept
+pub mod Views
+pub mod Told
+pub mod Tells
+pub mod Listed
