@@ -6,7 +6,8 @@ ghost use Rattle.dictionary.specs.declared.entries.Entry.{Entry};
 ghost use Rattle.link_graph.specs.Graph.{Layouts, ReadsBy};
 ghost use Rattle.frame_content.specs.Frames.{frame_of};
 ghost use Rattle.contents_table.specs.Built.{nothing_built, with_frame, with_channel, with_channels};
-ghost use Rattle.contents_table.specs.Built.{with_frame_of, with_record, listed_of, place_of, AreNames};
+ghost use Rattle.contents_table.specs.Built.{with_frame_of, with_record, listed_of, place_of, places_of};
+ghost use Rattle.contents_table.specs.Built.{AreNames};
 ghost use Rattle.contents_table.specs.Channels.{header_of, channels};
 ghost use Rattle.contents_table.specs.Layouts.{AreOf};
 
@@ -130,7 +131,8 @@ impl TableBuilder {
         requires frame { self.old.heads ≢ [] }
         ensures frame { self.new.heads ≡ self.old.heads }
         ensures ok { OnOk result ((held : List Entry) → AreOf held plans.now layouts.now
-            → self.new ≡ with_channels segment.now.nodes (frame_of held segment.now) self.old kind) }
+            → self.new
+            ≡ with_channels (places_of segment.now.nodes) (frame_of held segment.now) self.old kind) }
     {
         let nodes = channels(self.alloc, segment, plans, layouts, kind)?;
         for node in nodes.as_slice() {
@@ -154,7 +156,8 @@ impl TableBuilder {
         ensures frame { self.new.heads ≡ self.old.heads }
         ensures ok { OnOk result ((held : List Entry) → AreOf held plans.now layouts.now
             → Contains (channels (frame_of held segment.now) kind) node
-            → self.new ≡ with_record segment.now.nodes (frame_of held segment.now) kind self.old node) }
+            → self.new
+            ≡ with_record (places_of segment.now.nodes) (frame_of held segment.now) kind self.old node) }
     {
         match channel_name(segment, plans, layouts, kind, node) {
             Some(name) => self.add_channel(kind, name, segment.node(node).at),
@@ -206,7 +209,8 @@ impl TableBuilder {
 fn header_place(segment: &Segment, layouts: &ChannelLayouts) -> Option<u64>
     ensures { (held : List Entry) (plans : Layouts) → AreOf held plans layouts.now
         → All (ReadsBy plans segment.now.order) segment.now.nodes
-        → result ≡ option_map (place_of segment.now.nodes) (header_of (frame_of held segment.now)) }
+        → result
+        ≡ option_map (place_of (places_of segment.now.nodes)) (header_of (frame_of held segment.now)) }
 {
     let node = header(segment, layouts.frame_header?)?;
     Some(segment.node(node).at)

@@ -4,7 +4,7 @@ use Rattle.std.specs.Option.{option_map_or}
 use Rattle.link_graph.proofs.Found.{ok-map}
 use Rattle.frame_content.specs.Frames.{frame_of}
 use Rattle.contents_table.specs.declared.kind.Kind.TheVariants.{Adc, Proc, Sim, Ser}
-use Rattle.contents_table.specs.Built.{Built, with_frame, with_channels, place_of}
+use Rattle.contents_table.specs.Built.{Built, with_frame, with_channels, place_of, places_of}
 use Rattle.contents_table.specs.Channels.{header_of}
 use Rattle.contents_table.proofs.AddedChannels.{place-or}
 use Rattle.contents_table.proofs.builder.TableBuilder.add_segment.Goals as goal
@@ -13,16 +13,16 @@ pub returns : goal.returns
 returns c = ok-map c.add_channels-4.result
     (λ last held are.
     let f = frame_of held c.args.segment.now in
-    let nodes = c.args.segment.now.nodes in
+    let places = places_of c.args.segment.now.nodes in
     let at : c.unwrap_or-at.result
-    ≡ option_map_or (place_of c.args.segment.now.nodes) (header_of (frame_of held c.args.segment.now)) 0 =
+    ≡ option_map_or (place_of (places_of c.args.segment.now.nodes)) (header_of (frame_of held c.args.segment.now)) 0 =
     c.unwrap_or-at.ensures
-    ∙ place-or nodes (header_of f) c.header_place.result
+    ∙ place-or places (header_of f) c.header_place.result
     (c.header_place.ensures held c.args.plans.now are c.requires.bodies) in
     last held are
-    ∙ ap (λ (b : Built). with_channels nodes f b Ser) (c.in_ok-add_channels-3.ensures.ok held are
-    ∙ ap (λ (b : Built). with_channels nodes f b Sim) (c.in_ok-add_channels-2.ensures.ok held are
-    ∙ ap (λ (b : Built). with_channels nodes f b Proc) (c.in_ok-add_channels.ensures.ok held are
-    ∙ ap (λ (b : Built). with_channels nodes f b Adc) (c.in_ok-add_frame.ensures.ok
+    ∙ ap (λ (b : Built). with_channels places f b Ser) (c.in_ok-add_channels-3.ensures.ok held are
+    ∙ ap (λ (b : Built). with_channels places f b Sim) (c.in_ok-add_channels-2.ensures.ok held are
+    ∙ ap (λ (b : Built). with_channels places f b Proc) (c.in_ok-add_channels.ensures.ok held are
+    ∙ ap (λ (b : Built). with_channels places f b Adc) (c.in_ok-add_frame.ensures.ok
     ∙ ap (λ at. with_frame at c.args.self.now) at)))))
     c.add_channels-4.ensures.ok
