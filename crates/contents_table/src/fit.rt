@@ -5,7 +5,7 @@ ghost use Rattle.std.specs.Prelude.{if◌then◌else◌};
 ghost use Rattle.type_text.specs.declared.types.Base.{Base};
 ghost use Rattle.layout_plan.specs.Layout.{layout_of};
 ghost use Rattle.contents_table.specs.Fit.{is_fit, has_table, table_layout, fields_of, IsTableLayout};
-ghost use Rattle.contents_table.specs.Fit.{lists, lacks, kind_fields, serial_fields, positions_of};
+ghost use Rattle.contents_table.specs.Fit.{lists, lacks, kind_fields, serial_fields, positions_named};
 ghost use Rattle.contents_table.specs.Fit.{count_named, list_named, PassesOnly};
 
 use crate::kind::Kind;
@@ -131,7 +131,7 @@ fn kind_fields(elements: &[Element], kind: Kind) -> Option<KindFields>
 /// The positions of a kind, and whether those of one name stand together.
 fn positions_named(elements: &[Element], kind: Kind) -> Option<(u32, bool)>
     requires { length elements.now ≤ 4096 }
-    ensures { result ≡ positions_of elements.now kind }
+    ensures { result ≡ positions_named elements.now kind }
 {
     let name = kind.positions_field();
     let counter = kind.count_field();
