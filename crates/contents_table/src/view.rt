@@ -5,7 +5,7 @@ ghost use Rattle.std.specs.Option.{option_copied};
 ghost use Rattle.layout_plan.specs.Body.{HasBody, IsBody};
 ghost use Rattle.record_values.specs.declared.values.Value.{Value};
 ghost use Rattle.contents_table.specs.Fit.{IsTableLayout};
-ghost use Rattle.contents_table.specs.Listed.{table_of, find_position, IsGood, IsGoodOf, table_of_kind};
+ghost use Rattle.contents_table.specs.Listed.{table_of, table_of_kind, find_position, IsGood, IsGoodOf};
 
 use crate::builder::TableBuilder;
 use crate::fit::TableLayout;
