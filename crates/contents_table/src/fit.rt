@@ -20,22 +20,22 @@ const HEADS: &[u8] = b"positionH";
 /// The fields of a kind, by their numbers: how many names there are, the names, and their positions.
 #[derive(Clone, Copy)]
 pub struct KindFields {
-    pub count: u32,
-    pub names: u32,
-    pub positions: u32,
+    pub(crate) count: u32,
+    pub(crate) names: u32,
+    pub(crate) positions: u32,
     /// Whether the positions of one name stand together, and not those of one frame.
-    pub by_name: bool,
+    pub(crate) by_name: bool,
 }
 
 /// The fields of a contents table, by their numbers in its layout.
 #[derive(Clone, Copy)]
 pub struct TableLayout {
-    pub frames: u32,
-    pub heads: u32,
-    pub adc: KindFields,
-    pub proc: KindFields,
-    pub sim: KindFields,
-    pub ser: Option<KindFields>,
+    pub(crate) frames: u32,
+    pub(crate) heads: u32,
+    pub(crate) adc: KindFields,
+    pub(crate) proc: KindFields,
+    pub(crate) sim: KindFields,
+    pub(crate) ser: Option<KindFields>,
 }
 
 impl TableLayout {
