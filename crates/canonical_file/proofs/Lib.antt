@@ -13,3 +13,5 @@ mod Examples
 mod ExampleFrame
 mod ExampleFrames
 mod ExampleClashes
+pub mod EndSizes
+pub mod Sizes

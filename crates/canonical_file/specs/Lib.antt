@@ -6,4 +6,5 @@ pub mod Written
 pub mod Contents
 pub mod Splices
 pub mod Renumbered
+pub mod Sizes
 pub mod FrameLaws

@@ -36,12 +36,13 @@ pub record AreRenumbered (f : Frame) (s : List ℕ) : Type 0 where
       → named_channels (ordered f s) kind ≡ map (renumbered_channel s) (named_channels f kind)
   pub in_order : (kind : Kind) → All (Contains s) (channels f kind)
 
+-- Frames in their orders have their channels.
 abbrev pub ChannelsAreRenumbered : Type 0
 ChannelsAreRenumbered =
     (f : Frame) (s : List ℕ) → IsBreadthOrder (frame_graph f).graph s → IsLinked f → HasOneHeader f → AreRenumbered f s
 
--- So a contents table lists of the frame in its order what it lists of the frame, where the places are those of the same
--- records.
+-- So a contents table lists of the frame in its order what it lists of the frame, where the places are those of the
+-- same records.
 abbrev pub TablesAreRenumbered : Type 0
 TablesAreRenumbered =
     (f : Frame) (s places own : List ℕ) (built : Built) → IsBreadthOrder (frame_graph f).graph s → IsLinked f
