@@ -1,0 +1,34 @@
+-- What is kept of the items of a file that were read.
+use Rattle.std.specs.Prelude.{◌≡◌, ℕ, ◌×◌, false, List, Option, Some, None, ⊤}
+use Rattle.scalar_types.specs.declared.Order.{Order}
+use Rattle.dictionary.specs.Dictionary.{IsDictionary}
+use Rattle.file_grammar.specs.Item.{Item}
+use Rattle.file_grammar.specs.MayStand.{Begins}
+use Rattle.item_reader.specs.declared.item.Item.TheVariants.{FileEnd}
+use Rattle.item_reader.specs.Reader.{Reader}
+use Rattle.contents_table.specs.Built.{Built}
+use Rattle.contents_table.specs.Layouts.{layouts_of}
+use Rattle.file_content.specs.declared.scan.FoundTable.{FoundTable}
+use Rattle.file_content.specs.declared.scan.Scan.{Scan}
+use Rattle.file_content.specs.Stored.{StoredTable, frames_in, table_in, seek_in}
+use Rattle.file_content.specs.Contents.{built_of, is_listed, IsJudged}
+
+-- the table that was found is the one that stands, and it is judged
+abbrev pub IsFound : Order → ℕ → Built → Option StoredTable → Option FoundTable → Type 0
+IsFound order frames built None None = ⊤
+IsFound order frames built (Some t) (Some found) =
+    (found.at ≡ t.structure.at) × IsJudged (is_listed order frames t) built found.state
+IsFound order frames built None (Some found) = ⊥
+IsFound order frames built (Some t) None = ⊥
+
+-- What is kept is what the items that the reader has given hold.
+pub record HasScanned (file : List ℕ) (r : Reader) (kept : Scan) : Type 0 where
+  pub items : List Item
+  pub begins : Begins file r.order items r.before
+  pub sound : IsDictionary r.before.dictionary
+  pub layouts_are : kept.layouts ≡ layouts_of r.before.dictionary
+  pub channels_are : kept.channels ≡ built_of r.order (frames_in r.order items)
+  pub table_is : IsFound r.order r.before.frames kept.channels (table_in r.order items) kept.table
+  pub no_table : r.before.table ≡ false → table_in r.order items ≡ None
+  pub seek_is : (at class length seek : ℕ) → r.last ≡ Some (FileEnd at class length seek)
+      → seek_in r.order items ≡ Some seek
