@@ -1,6 +1,6 @@
 -- What a well-formed file holds, as far as its frames are counted and its channels listed, and the state of its contents
 -- table.
-use Rattle.std.specs.Prelude.{◌≡◌, ℕ, zero, suc, ◌+◌, ◌==◌, if◌then◌else◌, ◌×◌, ◌⊎◌, List, fold, length}
+use Rattle.std.specs.Prelude.{◌≡◌, ℕ, zero, suc, ◌+◌, ◌==◌, if◌then◌else◌, ◌⊎◌, List, fold, length}
 use Rattle.std.specs.Prelude.{option_and_then, Option, Some, None}
 use Rattle.std.specs.Option.{option_map, option_map_or}
 use Rattle.scalar_types.specs.declared.Order.{Order}

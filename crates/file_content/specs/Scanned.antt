@@ -1,9 +1,10 @@
 -- What is kept of the items of a file that were read.
-use Rattle.std.specs.Prelude.{◌≡◌, ℕ, ◌×◌, false, List, Option, Some, None, ⊤}
+use Rattle.std.specs.Prelude.{◌≡◌, ℕ, false, List, Option, Some, None, ⊤}
 use Rattle.scalar_types.specs.declared.Order.{Order}
 use Rattle.dictionary.specs.Dictionary.{IsDictionary}
-use Rattle.file_grammar.specs.Item.{Item}
+use Rattle.file_grammar.specs.Item.{Item, Before}
 use Rattle.file_grammar.specs.MayStand.{Begins}
+use Rattle.item_reader.specs.declared.item.Item.{Item as Given}
 use Rattle.item_reader.specs.declared.item.Item.TheVariants.{FileEnd}
 use Rattle.item_reader.specs.Reader.{Reader}
 use Rattle.contents_table.specs.Built.{Built}
@@ -21,14 +22,17 @@ IsFound order frames built (Some t) (Some found) =
 IsFound order frames built None (Some found) = ⊥
 IsFound order frames built (Some t) None = ⊥
 
--- What is kept is what the items that the reader has given hold.
-pub record HasScanned (file : List ℕ) (r : Reader) (kept : Scan) : Type 0 where
+-- What is kept is what the items before a place hold, the last of which was given.
+pub record HasItems (file : List ℕ) (order : Order) (before : Before) (last : Option Given) (scan : Scan) : Type 0 where
   pub items : List Item
-  pub begins : Begins file r.order items r.before
-  pub sound : IsDictionary r.before.dictionary
-  pub layouts_are : kept.layouts ≡ layouts_of r.before.dictionary
-  pub channels_are : kept.channels ≡ built_of r.order (frames_in r.order items)
-  pub table_is : IsFound r.order r.before.frames kept.channels (table_in r.order items) kept.table
-  pub no_table : r.before.table ≡ false → table_in r.order items ≡ None
-  pub seek_is : (at class length seek : ℕ) → r.last ≡ Some (FileEnd at class length seek)
-      → seek_in r.order items ≡ Some seek
+  pub begins : Begins file order items before
+  pub sound : IsDictionary before.dictionary
+  pub layouts_are : scan.layouts ≡ layouts_of before.dictionary
+  pub channels_are : scan.channels ≡ built_of order (frames_in order items)
+  pub table_is : IsFound order before.frames scan.channels (table_in order items) scan.table
+  pub no_table : before.table ≡ false → table_in order items ≡ None
+  pub seek_is : (at class length seek : ℕ) → last ≡ Some (FileEnd at class length seek)
+      → seek_in order items ≡ Some seek
+
+abbrev pub HasScanned : List ℕ → Reader → Scan → Type 0
+HasScanned file r scan = HasItems file r.order r.before r.last scan
