@@ -3,6 +3,9 @@ use Rattle.std.specs.Prelude.{◌≡◌, ℕ, List, ◌++◌, codes, Option, Som
 use Rattle.std.specs.Fmt.{decimal}
 use Rattle.scalar_types.specs.declared.Order.{Order}
 use Rattle.scalar_types.specs.declared.Order.TheVariants.{Big, Little}
+use Rattle.file_content.specs.declared.contents.Contents.{Contents}
+use Rattle.file_content.specs.declared.state.TableState.{TableState}
+use Rattle.file_content.specs.declared.state.TableState.TheVariants as state
 use Rattle.frame_outside.specs.Shelf.{Files}
 use Rattle.frame_outside.specs.Sink.{Output, Appends}
 use Rattle.frame_tool.specs.declared.outcome.Outcome.{Outcome}
@@ -10,11 +13,14 @@ use Rattle.frame_tool.specs.declared.outcome.Outcome.TheVariants.{Done, Fault, U
 use Rattle.frame_tool.specs.declared.verdict.Verdict.{Verdict}
 use Rattle.frame_tool.specs.declared.verdict.Verdict.TheVariants.{Sound, Wrong}
 use Rattle.frame_tool.specs.Outcome.{line_of}
-use Rattle.frame_tool.specs.Words.{Form, WalkFile, CheckFile, command_of}
+use Rattle.frame_tool.specs.Words.{Form, WalkFile, CheckFile, ListFile, command_of}
 use Rattle.frame_tool.specs.declared.judgement.Finding.{Finding}
 use Rattle.frame_tool.specs.declared.judgement.Finding.TheVariants.{Accepted, Refused}
+use Rattle.frame_tool.specs.declared.judgement.Report.{Report}
+use Rattle.frame_tool.specs.declared.judgement.Report.TheVariants.{Summary, Channels}
 use Rattle.frame_tool.specs.Walk.{IsVerdict}
 use Rattle.frame_tool.specs.Check.{IsFinding}
+use Rattle.frame_tool.specs.Listing.{list_text}
 
 pub record Reply : Type 0 where
   pub outcome : Outcome
@@ -37,36 +43,54 @@ abbrev pub walk_reply : Verdict → Reply
 walk_reply (Sound order count) = record { outcome = Done; text = walk_text order count }
 walk_reply (Wrong at reason) = reply_with (Fault 0 at 0 reason)
 
--- the text of an accepted file
-abbrev pub check_text : Order → ℕ → ℕ → ℕ → List ℕ
-check_text order frames records bytes =
-    codes "accepted\norder: "
-    ++ (order_name order ++ (codes "\nframes: "
-    ++ (decimal frames ++ (codes "\nrecords: "
-    ++ (decimal records ++ (codes "\nbytes: " ++ (decimal bytes ++ codes "\n")))))))
+abbrev pub state_name : TableState → List ℕ
+state_name state.None = codes "none"
+state_name state.Lost = codes "lost"
+state_name state.Unread = codes "unread"
+state_name state.Good = codes "good"
+state_name state.Bad = codes "bad"
 
--- the reply of `check` by what is found
-abbrev pub check_reply : Finding → Reply
-check_reply (Accepted order frames records bytes) =
-    record { outcome = Done; text = check_text order frames records bytes }
-check_reply (Refused fault) = reply_with (Fault 0 fault.at fault.field fault.reason)
+-- the text of an accepted file
+abbrev pub check_text : Contents → List ℕ
+check_text contents =
+    codes "accepted\norder: "
+    ++ (order_name contents.order ++ (codes "\nframes: "
+    ++ (decimal contents.frames ++ (codes "\nrecords: "
+    ++ (decimal contents.records ++ (codes "\ntable: "
+    ++ (state_name contents.table ++ (codes "\nbytes: " ++ (decimal contents.bytes ++ codes "\n")))))))))
+
+-- what is asked for of an accepted file
+abbrev pub report_text : Report → Contents → List ℕ
+report_text Summary contents = check_text contents
+report_text Channels contents = list_text contents.channels
+
+-- the reply of `check` and `list` by what is found
+abbrev pub finding_reply : Report → Finding → Reply
+finding_reply report (Accepted contents) = record { outcome = Done; text = report_text report contents }
+finding_reply report (Refused fault) = reply_with (Fault 0 fault.at fault.field fault.reason)
+
+-- the command that asks for it
+abbrev pub form_asking : Report → List ℕ → Form
+form_asking Summary file = CheckFile file
+form_asking Channels file = ListFile file
 
 -- The reply that is due over the bytes of a file of which this is to be found; none are held where the name is not.
 abbrev pub IsFileDue : {A : Type 0} → (List ℕ → A → Type 0) → (A → Reply) → Option (List ℕ) → Reply → Type 0
 IsFileDue is reply_of None reply = reply ≡ reply_with Device
 IsFileDue {A} is reply_of (Some file) reply = (a : A) × is file a × (reply ≡ reply_of a)
 
--- the reply that is due to `walk`, and to `check`
+-- the reply that is due to `walk`, and to `check` and `list`
 abbrev pub IsWalkDue : Option (List ℕ) → Reply → Type 0
 IsWalkDue = IsFileDue IsVerdict walk_reply
 
-abbrev pub IsCheckDue : Option (List ℕ) → Reply → Type 0
-IsCheckDue = IsFileDue IsFinding check_reply
+abbrev pub IsReportDue : Report → Option (List ℕ) → Reply → Type 0
+IsReportDue report = IsFileDue IsFinding (finding_reply report)
 
 abbrev pub IsCommandDue : Files → Option Form → Reply → Type 0
 IsCommandDue files None reply = reply ≡ reply_with Usage
 IsCommandDue files (Some (WalkFile file)) reply = IsWalkDue (files file) reply
-IsCommandDue files (Some (CheckFile file)) reply = IsCheckDue (files file) reply
+IsCommandDue files (Some (CheckFile file)) reply = IsReportDue Summary (files file) reply
+IsCommandDue files (Some (ListFile file)) reply = IsReportDue Channels (files file) reply
 
 -- the reply that is due to words over the files that are held
 abbrev pub IsDue : Files → List (List ℕ) → Reply → Type 0
@@ -84,6 +108,7 @@ IsAmong Usage None = ⊤
 IsAmong Done (Some form) = ⊤
 IsAmong (Fault file at field reason) (Some (WalkFile name)) = (file ≡ 0) × (field ≡ 0)
 IsAmong (Fault file at field reason) (Some (CheckFile name)) = file ≡ 0
+IsAmong (Fault file at field reason) (Some (ListFile name)) = file ≡ 0
 IsAmong _ command = ⊥
 
 -- a front of the text was appended

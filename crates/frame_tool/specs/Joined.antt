@@ -8,6 +8,7 @@ use Rattle.file_grammar.specs.declared.reason.Reason.TheVariants.{RecordLimit, F
 use Rattle.file_grammar.specs.declared.fault.Fault.{Fault}
 use Rattle.file_grammar.specs.Structure.{record_limit, common_at}
 use Rattle.frame_tool.specs.declared.verdict.Verdict.TheVariants.{Sound, Wrong}
+use Rattle.file_content.specs.declared.contents.Contents.{Contents}
 use Rattle.frame_tool.specs.declared.judgement.Finding.TheVariants.{Accepted, Refused}
 use Rattle.frame_tool.specs.Walk.{IsVerdict}
 use Rattle.frame_tool.specs.Check.{IsFinding}
@@ -32,8 +33,8 @@ IsOfLength file at _ = ⊥
 -- A file that is accepted is sound, in the byte order that was found.
 abbrev pub AcceptedFilesAreSound : Type 0
 AcceptedFilesAreSound =
-    (file : List ℕ) (order : Order) (frames records bytes : ℕ)
-    → IsFinding file (Accepted order frames records bytes) → (count : ℕ) × IsVerdict file (Sound order count)
+    (file : List ℕ) (contents : Contents) → IsFinding file (Accepted contents)
+    → (count : ℕ) × IsVerdict file (Sound contents.order count)
 
 -- Where a file is refused for such a reason, the walk has it at the same place, and both name field 0.
 abbrev pub BothNameFaultsOfLengths : Type 0

@@ -4,4 +4,5 @@ pub mod Walk
 pub mod WalkSteps
 pub mod Check
 pub mod Joined
+pub mod Listing
 pub mod Due

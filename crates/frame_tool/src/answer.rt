@@ -4,12 +4,14 @@ ghost use Rattle.std.specs.Prelude.{◌≡◌, ◌≢◌, IfOk};
 ghost use Rattle.std.specs.String.{string_bytes};
 ghost use Rattle.frame_outside.specs.Counts.{Rose};
 ghost use Rattle.frame_tool.specs.Outcome.{line_of};
-ghost use Rattle.frame_tool.specs.Due.{IsAnswer, Prints, order_name, walk_text, walk_reply, check_text};
-ghost use Rattle.frame_tool.specs.Due.{check_reply};
+ghost use Rattle.frame_tool.specs.Due.{IsAnswer, Prints, order_name, state_name, walk_text, walk_reply};
+ghost use Rattle.frame_tool.specs.Due.{check_text, report_text, finding_reply};
 
-use crate::judgement::Finding;
+use crate::judgement::{Finding, Report};
+use crate::listing::list_text;
 use crate::outcome::Outcome;
 use crate::verdict::Verdict;
+use file_content::{Contents, TableState};
 use frame_outside::{ShelfError, Sink};
 use scalar_types::Order;
 use std::alloc::{AllocError, Global};
@@ -51,19 +53,19 @@ pub fn answer_walk<O: Sink>(alloc: Global, out: &mut O, verdict: Verdict) -> Out
     }
 }
 
-/// Prints the text of `check` by what was found, and gives the answer.
-pub fn answer_check<O: Sink>(alloc: Global, out: &mut O, finding: Finding) -> Outcome
-    ensures answer { IsAnswer result (check_reply finding).outcome }
-    ensures text { Prints result (check_reply finding).text (O.output out.old) (O.output out.new) }
+/// Prints what is asked for by what was found of a file, and gives the answer.
+pub fn answer_finding<O: Sink>(
+    alloc: Global,
+    out: &mut O,
+    report: Report,
+    finding: Finding,
+) -> Outcome
+    ensures answer { IsAnswer result (finding_reply report finding).outcome }
+    ensures text { Prints result (finding_reply report finding).text (O.output out.old) (O.output out.new) }
     ensures device { result ≡ Outcome.Device → Rose (O.output out.old).faults (O.output out.new).faults }
 {
     match finding {
-        Finding::Accepted {
-            order,
-            frames,
-            records,
-            bytes,
-        } => match accepted(alloc, order, frames, records, bytes) {
+        Finding::Accepted(contents) => match report_on(alloc, report, &contents) {
             Ok(text) => print(alloc, out, Outcome::Done, text.as_str()),
             Err(_) => Outcome::NoMemory,
         },
@@ -80,19 +82,27 @@ pub fn answer_check<O: Sink>(alloc: Global, out: &mut O, finding: Finding) -> Ou
     }
 }
 
-/// The text of an accepted file.
-fn accepted(
-    alloc: Global,
-    order: Order,
-    frames: u64,
-    records: u64,
-    bytes: u64,
-) -> Result<String, AllocError>
-    ensures { IfOk result (λ text. string_bytes text ≡ check_text order frames records bytes) }
+/// What is asked for of an accepted file.
+fn report_on(alloc: Global, report: Report, contents: &Contents) -> Result<String, AllocError>
+    ensures { IfOk result (λ text. string_bytes text ≡ report_text report contents.now) }
 {
-    let name = name_of_order(order);
+    match report {
+        Report::Summary => check_text(alloc, contents),
+        Report::Channels => list_text(alloc, &contents.channels),
+    }
+}
+
+/// The text of `check`.
+fn check_text(alloc: Global, contents: &Contents) -> Result<String, AllocError>
+    ensures { IfOk result (λ text. string_bytes text ≡ check_text contents.now) }
+{
+    let order = name_of_order(contents.order);
+    let frames = contents.frames;
+    let records = contents.records;
+    let table = name_of_state(contents.table);
+    let bytes = contents.bytes;
     format!(in alloc;
-        "accepted\norder: {name}\nframes: {frames}\nrecords: {records}\nbytes: {bytes}\n"
+        "accepted\norder: {order}\nframes: {frames}\nrecords: {records}\ntable: {table}\nbytes: {bytes}\n"
     )
 }
 
@@ -110,6 +120,18 @@ fn name_of_order(order: Order) -> &'static str
     match order {
         Order::Big => "big",
         Order::Little => "little",
+    }
+}
+
+fn name_of_state(state: TableState) -> &'static str
+    ensures { result.now ≡ state_name state }
+{
+    match state {
+        TableState::None => "none",
+        TableState::Lost => "lost",
+        TableState::Unread => "unread",
+        TableState::Good => "good",
+        TableState::Bad => "bad",
     }
 }
 

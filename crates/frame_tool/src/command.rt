@@ -10,6 +10,8 @@ pub enum Command<'a> {
     Walk { file: &'a str },
     /// `check FILE`: judges the whole file.
     Check { file: &'a str },
+    /// `list FILE`: prints the channels.
+    List { file: &'a str },
 }
 
 /// The command that the words are; `None` exactly where they are none.
@@ -24,6 +26,8 @@ pub fn read_words(words: &[String]) -> Option<Command<'_>>
         Some(Command::Walk { file })
     } else if command.as_str() == "check" {
         Some(Command::Check { file })
+    } else if command.as_str() == "list" {
+        Some(Command::List { file })
     } else {
         None
     }

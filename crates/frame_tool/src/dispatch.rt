@@ -3,14 +3,15 @@
 ghost use Rattle.std.specs.Prelude.{◌≡◌, ◌⊎◌, ◌+◌, ◌≤◌, ◌<◌, length, take, None, Some};
 ghost use Rattle.frame_outside.specs.Counts.{Rose};
 ghost use Rattle.frame_outside.specs.Shelf.{Told};
-ghost use Rattle.frame_tool.specs.Words.{WalkFile, CheckFile, command_of, texts};
-ghost use Rattle.frame_tool.specs.Due.{Reply, IsDue, IsWalkDue, IsCheckDue, IsAnswer, IsAmong, Prints};
-ghost use Rattle.frame_tool.specs.Due.{reply_with};
+ghost use Rattle.frame_tool.specs.Words.{WalkFile, command_of, texts};
+ghost use Rattle.frame_tool.specs.Due.{Reply, IsDue, IsWalkDue, IsReportDue, IsAnswer, IsAmong, Prints};
+ghost use Rattle.frame_tool.specs.Due.{reply_with, form_asking};
 ghost use Rattle.frame_tool.specs.WalkSteps.{ReadsOneFile};
 
-use crate::answer::{answer_check, answer_line, answer_walk};
+use crate::answer::{answer_finding, answer_line, answer_walk};
 use crate::check::check_file;
 use crate::command::{Command, read_words};
+use crate::judgement::Report;
 use crate::outcome::Outcome;
 use crate::walk::walk_file;
 use frame_outside::{Shelf, ShelfError, Sink};
@@ -54,7 +55,8 @@ pub fn run<S: Shelf, O: Sink>(
     match read_words(words) {
         None => answer_line(alloc, out, Outcome::Usage),
         Some(Command::Walk { file }) => run_walk(alloc, file, shelf, out),
-        Some(Command::Check { file }) => run_check(alloc, file, shelf, out),
+        Some(Command::Check { file }) => run_report(alloc, Report::Summary, file, shelf, out),
+        Some(Command::List { file }) => run_report(alloc, Report::Channels, file, shelf, out),
     }
 }
 
@@ -80,23 +82,30 @@ fn run_walk<S: Shelf, O: Sink>(alloc: Global, file: &str, shelf: &mut S, out: &m
     }
 }
 
-/// `check FILE`.
-fn run_check<S: Shelf, O: Sink>(alloc: Global, file: &str, shelf: &mut S, out: &mut O) -> Outcome
+/// `check FILE` and `list FILE`.
+fn run_report<S: Shelf, O: Sink>(
+    alloc: Global,
+    report: Report,
+    file: &str,
+    shelf: &mut S,
+    out: &mut O,
+) -> Outcome
     ensures answer { Told (S.outside shelf.old).files (λ files. (reply : Reply)
-        → IsCheckDue (files file.now) reply → IsAnswer result reply.outcome) }
+        → IsReportDue report (files file.now) reply → IsAnswer result reply.outcome) }
     ensures text { Told (S.outside shelf.old).files (λ files. (reply : Reply)
-        → IsCheckDue (files file.now) reply → Prints result reply.text (O.output out.old) (O.output out.new)) }
-    ensures among { IsAmong result (Some (CheckFile file.now)) }
+        → IsReportDue report (files file.now) reply
+        → Prints result reply.text (O.output out.old) (O.output out.new)) }
+    ensures among { IsAmong result (Some (form_asking report file.now)) }
     ensures device { result ≡ Outcome.Device → Rose (S.outside shelf.old).faults (S.outside shelf.new).faults
         ⊎ Rose (O.output out.old).faults (O.output out.new).faults }
     ensures sink { (O.output out.old).faults ≤ (O.output out.new).faults }
     ensures shelf { ReadsOneFile (S.outside shelf.old) (S.outside shelf.new) file.now }
     ensures misses { Told (S.outside shelf.old).files
         (λ files. (S.outside shelf.old).misses < (S.outside shelf.new).misses
-        → IsCheckDue (files file.now) (reply_with Outcome.Device)) }
+        → IsReportDue report (files file.now) (reply_with Outcome.Device)) }
 {
     match check_file(alloc, shelf, file) {
-        Ok(finding) => answer_check(alloc, out, finding),
+        Ok(finding) => answer_finding(alloc, out, report, finding),
         Err(ShelfError::Failed) => Outcome::Device,
         Err(ShelfError::NoMemory) => Outcome::NoMemory,
     }

@@ -1,19 +1,22 @@
-//! What a check of a file finds.
+//! What is found of a file, and what is asked for.
 
+use file_content::Contents;
 use file_grammar::Fault;
-use scalar_types::Order;
 
 /// What is found of a file.
-#[derive(Clone, Copy, Debug, PartialEq, Eq)]
+#[derive(Drop)]
 pub enum Finding {
-    /// It is well-formed: its byte order, the number of its frames, that of their records, end records among them, and that of
-    /// its bytes.
-    Accepted {
-        order: Order,
-        frames: u64,
-        records: u64,
-        bytes: u64,
-    },
+    /// It is well-formed, and holds this.
+    Accepted(Contents),
     /// It is not, and this is its first fault.
     Refused(Fault),
+}
+
+/// What is to be printed of a file that is accepted.
+#[derive(Clone, Copy)]
+pub enum Report {
+    /// Its order, what it counts, and the state of its contents table: `check`.
+    Summary,
+    /// Its channels: `list`.
+    Channels,
 }

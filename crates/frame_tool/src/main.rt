@@ -10,17 +10,22 @@ mod command;
 mod dispatch;
 mod judgement;
 mod laws;
+mod listing;
 mod outcome;
 #[cfg(test)]
 mod pieces;
 #[cfg(test)]
 mod tests;
 #[cfg(test)]
+mod tests_of_channels;
+#[cfg(test)]
 mod tests_of_check;
 #[cfg(test)]
 mod tests_of_frames;
 #[cfg(test)]
 mod tests_of_reader;
+#[cfg(test)]
+mod tests_of_tables;
 mod verdict;
 mod walk;
 #[cfg(test)]

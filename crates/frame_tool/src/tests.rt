@@ -95,7 +95,13 @@ fn walks_worked_files(rt: HostRuntime) -> Result<(), Fail> {
 fn answers_words_and_failing_calls(rt: HostRuntime) -> Result<(), Fail> {
     let alloc = rt.alloc();
     let none: [&str; 0] = [];
-    for words in [none.as_slice(), &["wlak", "f"], &["walk", "f", "f"]] {
+    for words in [
+        none.as_slice(),
+        &["wlak", "f"],
+        &["walk", "f", "f"],
+        &["list"],
+        &["list", "f", "f"],
+    ] {
         let (status, printed) = run_over(alloc, WHOLE, LITTLE, words)?;
         assert_eq!(rt; status, 2);
         assert_eq!(rt; printed.as_slice(), b"usage\n".as_slice());

@@ -17,17 +17,17 @@ fn judges_headers_and_lengths(rt: HostRuntime) -> Result<(), Fail> {
         (
             "no frame",
             &[Bare(0, 273)],
-            "accepted\norder: little\nframes: 0\nrecords: 0\nbytes: 273\n",
+            "accepted\norder: little\nframes: 0\nrecords: 0\ntable: none\nbytes: 273\n",
         ),
         (
             "no frame, big-endian",
             &[Bytes(BIG)],
-            "accepted\norder: big\nframes: 0\nrecords: 0\nbytes: 273\n",
+            "accepted\norder: big\nframes: 0\nrecords: 0\ntable: none\nbytes: 273\n",
         ),
         (
             "one frame",
             &[Full(0, 3637)],
-            "accepted\norder: little\nframes: 1\nrecords: 10\nbytes: 3637\n",
+            "accepted\norder: little\nframes: 1\nrecords: 10\ntable: good\nbytes: 3637\n",
         ),
         (
             "no frame, 39 bytes",
@@ -62,7 +62,7 @@ fn judges_headers_and_lengths(rt: HostRuntime) -> Result<(), Fail> {
         (
             "the minor version is not judged",
             &[Bare(0, 6), Bytes(b"\x09"), Bare(7, 273)],
-            "accepted\norder: little\nframes: 0\nrecords: 0\nbytes: 273\n",
+            "accepted\norder: little\nframes: 0\nrecords: 0\ntable: none\nbytes: 273\n",
         ),
         (
             "a wrong header in a cut one: 1 before 2",
@@ -177,7 +177,7 @@ fn judges_layouts_and_bodies(rt: HostRuntime) -> Result<(), Fail> {
                 Bare(261, 273),
                 Bytes(b"abcd"),
             ],
-            "accepted\norder: little\nframes: 0\nrecords: 0\nbytes: 277\n",
+            "accepted\norder: little\nframes: 0\nrecords: 0\ntable: none\nbytes: 277\n",
         ),
         (
             "FrameH's name is not closed",
@@ -206,7 +206,7 @@ fn judges_layouts_and_bodies(rt: HostRuntime) -> Result<(), Fail> {
                 Bytes(b"\0\0"),
                 Rest(2495),
             ],
-            "accepted\norder: little\nframes: 1\nrecords: 10\nbytes: 3634\n",
+            "accepted\norder: little\nframes: 1\nrecords: 10\ntable: bad\nbytes: 3634\n",
         ),
     ];
     check_rows(&rt, rt.alloc(), rows.as_slice())?;
@@ -219,7 +219,7 @@ fn judges_entries(rt: HostRuntime) -> Result<(), Fail> {
         (
             "an entry stands twice",
             &[Full(0, 839), Full(640, 809), Rest(839)],
-            "accepted\norder: little\nframes: 1\nrecords: 10\nbytes: 3806\n",
+            "accepted\norder: little\nframes: 1\nrecords: 10\ntable: bad\nbytes: 3806\n",
         ),
         (
             "an entry with another element name",
@@ -263,7 +263,7 @@ fn judges_entries(rt: HostRuntime) -> Result<(), Fail> {
                 ),
                 Rest(839),
             ],
-            "accepted\norder: little\nframes: 1\nrecords: 10\nbytes: 130640\n",
+            "accepted\norder: little\nframes: 1\nrecords: 10\ntable: bad\nbytes: 130640\n",
         ),
         (
             "an entry of 4097 elements",
@@ -322,14 +322,15 @@ fn answers_failing_calls(rt: HostRuntime) -> Result<(), Fail> {
                 shelf_call,
                 ..WHOLE
             };
-            let (status, printed) = run_over(alloc, outside, file, &["check", "f"])?;
-            let fails = shelf_call <= calls;
-            assert_eq!(rt;
-                status,
-                if fails { 3 } else { 0 },
-                "call {shelf_call} of {calls}"
-            );
-            assert_eq!(rt; printed.is_empty(), fails, "call {shelf_call} of {calls}");
+            for command in ["check", "list"] {
+                let (status, printed) = run_over(alloc, outside, file, &[command, "f"])?;
+                let fails = shelf_call <= calls;
+                let message = format!(in alloc; "{command}, call {shelf_call} of {calls}")?;
+                assert_eq!(rt; status, if fails { 3 } else { 0 }, "{message}");
+                // the file without a frame has no channel
+                let is_empty = fails || (command == "list" && file.len() == LITTLE.len());
+                assert_eq!(rt; printed.is_empty(), is_empty, "{message}");
+            }
         }
     }
     let outside = Outside {
@@ -337,9 +338,11 @@ fn answers_failing_calls(rt: HostRuntime) -> Result<(), Fail> {
         ..WHOLE
     };
     for (outside, name) in [(outside, "f"), (WHOLE, "g")] {
-        let (status, printed) = run_over(alloc, outside, LITTLE, &["check", name])?;
-        assert_eq!(rt; status, 3, "{name}");
-        assert!(rt; printed.is_empty(), "{name}");
+        for command in ["check", "list"] {
+            let (status, printed) = run_over(alloc, outside, LITTLE, &[command, name])?;
+            assert_eq!(rt; status, 3, "{command} {name}");
+            assert!(rt; printed.is_empty(), "{command} {name}");
+        }
     }
     Ok(())
 }

@@ -1,8 +1,8 @@
 //! Runs of `check` over frames and closings that may stand or may not.
 
 use crate::pieces::Piece::{Bare, Bytes, Full, Rest, Times};
-use crate::pieces::{Row, check_rows, range};
-use crate::worked_files::{ONE_FRAME, Outside, WHOLE, changed, run_over};
+use crate::pieces::{Row, check_print, check_rows, range};
+use crate::worked_files::{ONE_FRAME, changed};
 use std::test::Fail;
 
 #[test]
@@ -46,7 +46,7 @@ fn judges_frames(rt: HostRuntime) -> Result<(), Fail> {
         (
             "next of H1:C leads to H1:A",
             &[Full(0, 2405), Bytes(b"\x05\0\0\0\0\0"), Full(2411, 3637)],
-            "accepted\norder: little\nframes: 1\nrecords: 10\nbytes: 3637\n",
+            "accepted\norder: little\nframes: 1\nrecords: 10\ntable: good\nbytes: 3637\n",
         ),
         (
             "two frames",
@@ -61,7 +61,7 @@ fn judges_frames(rt: HostRuntime) -> Result<(), Fail> {
                 Bytes(b"\x02\0\0\0"),
                 Rest(3617),
             ],
-            "accepted\norder: little\nframes: 2\nrecords: 20\nbytes: 4232\n",
+            "accepted\norder: little\nframes: 2\nrecords: 20\ntable: unread\nbytes: 4232\n",
         ),
         (
             "records in reverse order",
@@ -80,7 +80,7 @@ fn judges_frames(rt: HostRuntime) -> Result<(), Fail> {
                 Full(40, 640),
                 Rest(2505),
             ],
-            "accepted\norder: little\nframes: 1\nrecords: 10\nbytes: 3637\n",
+            "accepted\norder: little\nframes: 1\nrecords: 10\ntable: bad\nbytes: 3637\n",
         ),
         (
             "the frame has no end record",
@@ -112,7 +112,7 @@ fn judges_frames(rt: HostRuntime) -> Result<(), Fail> {
                 Bytes(b"1\x0e\x01\0\0\0\0\0"),
                 Full(3625, 3637),
             ],
-            "accepted\norder: little\nframes: 1\nrecords: 10\nbytes: 69169\n",
+            "accepted\norder: little\nframes: 1\nrecords: 10\ntable: bad\nbytes: 69169\n",
         ),
     ];
     check_rows(&rt, rt.alloc(), rows.as_slice())?;
@@ -163,13 +163,11 @@ fn accepts_other_instances_in_reverse_order(rt: HostRuntime) -> Result<(), Fail>
     for (from, to) in REVERSED {
         file.extend_from_slice(range(whole.as_slice(), from, to))?;
     }
-    for most in [usize::MAX, 1] {
-        let outside = Outside { most, ..WHOLE };
-        let (status, printed) = run_over(alloc, outside, file.as_slice(), &["check", "f"])?;
-        let text = "accepted\norder: little\nframes: 1\nrecords: 10\nbytes: 3637\n";
-        assert_eq!(rt; printed.as_slice(), text.as_bytes());
-        assert_eq!(rt; status, 0);
-    }
+    let name = "other instances in reverse order";
+    let summary = "accepted\norder: little\nframes: 1\nrecords: 10\ntable: none\nbytes: 3637\n";
+    let channels = "adc 1 H1:A\nadc 1 H1:B\nadc 1 H1:C\n";
+    check_print(&rt, alloc, name, file.as_slice(), "check", summary)?;
+    check_print(&rt, alloc, name, file.as_slice(), "list", channels)?;
     Ok(())
 }
 
@@ -179,9 +177,15 @@ const GROUP: &[u8] = b"\
     &\0\0\0\0\0\0\0\0\x02\0\0\0\0\x06\0count\0\x07\0INT_4U\0\x01\0\0\0\0\0\0\
     =\0\0\0\0\0\0\0\0\x02\x01\0\0\0\x08\0members\0\x1c\0PTR_STRUCT(FrVect *)[count]\0\x01\0\0\0\0\0\0";
 
+/// The same where the number is a signed one of two bytes.
+const SIGNED_GROUP: &[u8] = b"\
+    \x1f\0\0\0\0\0\0\0\0\x01\x08\0\0\0\x06\0Group\0\x0c\0\x01\0\0\0\0\0\0\
+    &\0\0\0\0\0\0\0\0\x02\0\0\0\0\x06\0count\0\x07\0INT_2S\0\x01\0\0\0\0\0\0\
+    =\0\0\0\0\0\0\0\0\x02\x01\0\0\0\x08\0members\0\x1c\0PTR_STRUCT(FrVect *)[count]\0\x01\0\0\0\0\0\0";
+
 #[test]
 fn judges_lists_of_links(rt: HostRuntime) -> Result<(), Fail> {
-    let rows: [Row; 3] = [
+    let rows: [Row; 6] = [
         (
             "the second member leads nowhere",
             &[
@@ -200,7 +204,7 @@ fn judges_lists_of_links(rt: HostRuntime) -> Result<(), Fail> {
                 Bytes(b"\x1e\0\0\0\0\0\0\0\0\x0c\0\0\0\0\x02\0\0\0\x07\0\x02\0\0\0\x07\0\0\0\0\0"),
                 Rest(2505),
             ],
-            "accepted\norder: little\nframes: 1\nrecords: 11\nbytes: 3797\n",
+            "accepted\norder: little\nframes: 1\nrecords: 11\ntable: good\nbytes: 3797\n",
         ),
         (
             "the first member is null",
@@ -210,7 +214,37 @@ fn judges_lists_of_links(rt: HostRuntime) -> Result<(), Fail> {
                 Bytes(b"\x1e\0\0\0\0\0\0\0\0\x0c\0\0\0\0\x02\0\0\0\0\0\x09\0\0\0\x07\0\x01\0\0\0"),
                 Rest(2505),
             ],
-            "accepted\norder: little\nframes: 1\nrecords: 11\nbytes: 3797\n",
+            "accepted\norder: little\nframes: 1\nrecords: 11\ntable: good\nbytes: 3797\n",
+        ),
+        (
+            "two members by a signed number",
+            &[
+                Full(0, 2505),
+                Bytes(SIGNED_GROUP),
+                Bytes(b"\x1c\0\0\0\0\0\0\0\0\x0c\0\0\0\0\x02\0\x07\0\x02\0\0\0\x07\0\0\0\0\0"),
+                Rest(2505),
+            ],
+            "accepted\norder: little\nframes: 1\nrecords: 11\ntable: good\nbytes: 3795\n",
+        ),
+        (
+            "no member by a signed number below 0",
+            &[
+                Full(0, 2505),
+                Bytes(SIGNED_GROUP),
+                Bytes(b"\x10\0\0\0\0\0\0\0\0\x0c\0\0\0\0\xff\xff"),
+                Rest(2505),
+            ],
+            "accepted\norder: little\nframes: 1\nrecords: 11\ntable: good\nbytes: 3783\n",
+        ),
+        (
+            "one member where a signed number tells two",
+            &[
+                Full(0, 2505),
+                Bytes(SIGNED_GROUP),
+                Bytes(b"\x16\0\0\0\0\0\0\0\0\x0c\0\0\0\0\x02\0\x07\0\x02\0\0\0"),
+                Rest(2505),
+            ],
+            "fault: file 0 at 2635 field 1: 9 BodyShort\n",
         ),
     ];
     check_rows(&rt, rt.alloc(), rows.as_slice())?;
@@ -243,7 +277,7 @@ fn judges_the_closing(rt: HostRuntime) -> Result<(), Fail> {
         (
             "nProc is 4294967295",
             &[Full(0, 3392), Bytes(&[255; 4]), Full(3396, 3637)],
-            "accepted\norder: little\nframes: 1\nrecords: 10\nbytes: 3637\n",
+            "accepted\norder: little\nframes: 1\nrecords: 10\ntable: unread\nbytes: 3637\n",
         ),
         (
             "nFrames is 2",
@@ -258,7 +292,7 @@ fn judges_the_closing(rt: HostRuntime) -> Result<(), Fail> {
         (
             "nBytes is 0",
             &[Rest(0)],
-            "accepted\norder: little\nframes: 1\nrecords: 10\nbytes: 3637\n",
+            "accepted\norder: little\nframes: 1\nrecords: 10\ntable: good\nbytes: 3637\n",
         ),
         (
             "nFrames and nBytes are wrong: 25 before 26",
