@@ -13,6 +13,8 @@ use Rattle.contents_table.specs.declared.kind.Kind.{Kind}
 use Rattle.contents_table.specs.declared.kind.Kind.TheVariants.{Adc, Proc, Sim, Ser}
 use Rattle.contents_table.specs.declared.names.Found.{Found}
 use Rattle.contents_table.specs.declared.names.Listed.{Listed}
+use Rattle.contents_table.specs.declared.places.Places.{Places}
+use Rattle.contents_table.specs.declared.places.Places.TheVariants.{OfSource, At}
 use Rattle.contents_table.specs.Channels.{named_channels, name_of, header_of}
 
 -- the place of each frame's FrameH, and the names of each kind in the order in which they first came
@@ -113,6 +115,11 @@ with_frame_at places f built =
 -- the places of a segment's records
 abbrev pub places_of : List Bodied → List ℕ
 places_of nodes = map (λ (r : Bodied). r.node.at) nodes
+
+-- where a segment's records stand: in the file that they come from, or at the places that are given
+abbrev pub places_in : List Bodied → Places → List ℕ
+places_in nodes OfSource = places_of nodes
+places_in nodes (At places) = places.now
 
 -- One more frame, which is that of a segment with these records.
 abbrev pub with_frame_of : List Bodied → Frame → Built → Built
