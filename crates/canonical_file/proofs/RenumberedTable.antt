@@ -12,7 +12,7 @@ use Rattle.contents_table.specs.declared.kind.Kind.TheVariants.{Adc, Proc, Sim, 
 use Rattle.contents_table.specs.Channels.{header_of, channels, name_of, named_channel}
 use Rattle.contents_table.specs.Built.{Built, with_frame, with_channel}
 use Rattle.canonical_file.specs.Ordered.{frame_graph, ordered}
-use Rattle.canonical_file.specs.Written.{place_of, with_named, with_channels, with_frame_at}
+use Rattle.contents_table.specs.Built.{place_of, with_named, with_channels, with_frame_at}
 use Rattle.canonical_file.specs.Renumbered.{IsLinked, HasOneHeader, number_in, renumbered_channel}
 use Rattle.canonical_file.proofs.RenumberedLinks.{AreIn}
 use Rattle.canonical_file.proofs.RenumberedWalk.{AllIn, number-in}

@@ -16,7 +16,8 @@ use Rattle.contents_table.specs.Built.{Built, with_frame}
 use Rattle.canonical_file.specs.Ordered.{class_of, class_at, is_of_class, instance_at, new_link}
 use Rattle.canonical_file.specs.Records.{Record, row_record, end_record, records_of, entries_after, piece_bytes}
 use Rattle.canonical_file.specs.Records.{pieces_of, record_places}
-use Rattle.canonical_file.specs.Written.{place_of, with_named, with_channels, with_frame_at, Written, frame_pieces}
+use Rattle.contents_table.specs.Built.{place_of, with_named, with_channels, with_frame_at}
+use Rattle.canonical_file.specs.Written.{Written, frame_pieces}
 use Rattle.canonical_file.specs.Written.{frame_part, after_frame, after_frames, frame_parts}
 use Rattle.canonical_file.specs.Splices.{entry_under, row_under, frame_under}
 use Rattle.canonical_file.proofs.RenumberedTable.{all-kinds}

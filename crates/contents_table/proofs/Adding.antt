@@ -16,7 +16,7 @@ use Rattle.contents_table.specs.declared.names.Listed.{Listed}
 use Rattle.contents_table.specs.Built.{with_name, with_found, is_in, name_in, are_distinct, AreInOrder}
 use Rattle.contents_table.specs.Built.{IsName, AreNames}
 use Rattle.contents_table.specs.Kept.{number_in}
-use Rattle.contents_table.proofs.Distinct.{position-None, none-passes, distinct-push}
+use Rattle.contents_table.proofs.Distinct.{position-None, none-passes, distinct-new}
 use Rattle.contents_table.proofs.InOrder.{frames-below}
 
 -- ---- channels
@@ -162,7 +162,7 @@ names-kept-push more listed name names short free = record {
   names = All-push (IsName (more.frame + 1)) listed (record { name = name; found = more ∷ [] }) names.names
       (record { short = short; ordered = (omega arith, λ k d h. absurd (omega (arith, h)), tt) });
   distinct = ap are_distinct (map-append name_in listed (record { name = name; found = more ∷ [] } ∷ []))
-      ∙ distinct-push (map name_in listed) name names.distinct free;
+      ∙ distinct-new (map name_in listed) name names.distinct free;
 }
 
 -- what one more channel makes of the list

@@ -1,14 +1,13 @@
 -- Names of which no two are the same, and the number of a name among others.
-use Rattle.std.proofs.Common.{◌≡◌, ℕ, zero, suc, ◌<◌, ◌≤◌, Bool, true, false, cond, ◌||◌, List, [], ◌∷◌, ◌++◌}
-use Rattle.std.proofs.Common.{length}
-use Rattle.std.proofs.Common.{get_or, position, Some, None, refl, sym, ap, ◌∙◌, arith}
+use Rattle.std.proofs.Common.{◌≡◌, ℕ, zero, suc, ◌<◌, ◌≤◌, Bool, true, false, cond, ◌&&◌, ◌||◌, List, [], ◌∷◌, ◌++◌}
+use Rattle.std.proofs.Common.{length, get_or, position, Some, None, refl, sym, ap, ◌∙◌, arith}
 use Rattle.std.specs.Prelude.{not, nat_lt}
 use Rattle.std.specs.List.{position_or_len, list_any}
 use Rattle.std.specs.Str.{bytes_eq}
 use Rattle.std.specs.Cmp.Lexicographic.{nat_list_eq_equiv, bytes_decides}
-use Rattle.std.proofs.lemmas.Bool.{and_parts, and_from, not-true, not_from_false, or_parts, or_from, lt-ltb}
+use Rattle.std.proofs.lemmas.Bool.{and_parts, not-true, or_parts, lt-ltb}
 use Rattle.std.proofs.lemmas.Bool.{ltb-false, cond-true}
-use Rattle.std.proofs.lemmas.List.Folds.{list_any-append}
+use Rattle.std.proofs.lemmas.List.Folds.{list_any-append, list_any_none}
 use Rattle.std.proofs.lemmas.List.Sums.{position_or_len_is, fails_before_first}
 use Rattle.contents_table.specs.Built.{are_distinct}
 
@@ -57,21 +56,30 @@ position-None test xs k d none within =
         let from = past refl in
         fails_before_first test xs k d (omega arith)
 
-pub distinct-push : (names : List (List ℕ)) (name : List ℕ) → are_distinct names ≡ true →
+others-apart : (here there more distinct : Bool) → (not (here || (there || false)) && (distinct && not more))
+    ≡ ((not here && distinct) && not (there || more))
+others-apart true there more distinct = refl
+others-apart false true more true = refl
+others-apart false true more false = refl
+others-apart false false true true = refl
+others-apart false false true false = refl
+others-apart false false false true = refl
+others-apart false false false false = refl
+
+-- one more name behind them
+pub distinct-push : (names : List (List ℕ)) (name : List ℕ)
+    → are_distinct (names ++ name ∷ []) ≡ (are_distinct names && not (list_any (bytes_eq name) names))
+distinct-push [] name = refl
+distinct-push (n ∷ names) name =
+    (λ i. not (list_any-append (bytes_eq n) names (name ∷ []) i) && distinct-push names name i)
+    ∙ ap (λ b. not (list_any (bytes_eq n) names || (b || false))
+    && (are_distinct names && not (list_any (bytes_eq name) names))) (nat_list_eq_equiv.symm n name)
+    ∙ others-apart (list_any (bytes_eq n) names) (bytes_eq name n) (list_any (bytes_eq name) names) (are_distinct names)
+
+-- and one that is none of them
+pub distinct-new : (names : List (List ℕ)) (name : List ℕ) → are_distinct names ≡ true →
     position (bytes_eq name) names ≡ None → are_distinct (names ++ name ∷ []) ≡ true
-distinct-push names name distinct free =
-    by names distinct (λ k within. position-None (bytes_eq name) names k [] free within)
-  where
-    by : (names : List (List ℕ)) → are_distinct names ≡ true →
-        ((k : ℕ) → k < length names → bytes_eq name (get_or names k []) ≡ false) →
-        are_distinct (names ++ name ∷ []) ≡ true
-    by [] distinct apart = refl
-    by (n ∷ more) distinct apart =
-        let parts = and_parts (not (list_any (bytes_eq n) more)) (are_distinct more) distinct in
-        and_from (not (list_any (bytes_eq n) (more ++ name ∷ []))) (are_distinct (more ++ name ∷ []))
-        (not_from_false (list_any (bytes_eq n) (more ++ name ∷ []))
-        (list_any-append (bytes_eq n) more (name ∷ [])
-        ∙ or_from (list_any (bytes_eq n) more) (bytes_eq n name || false)
-        (not-true (list_any (bytes_eq n) more) parts.0)
-        (or_from (bytes_eq n name) false (nat_list_eq_equiv.symm n name ∙ apart 0 (omega arith)) refl)))
-        (by more parts.1 (λ k within. apart (suc k) (omega arith)))
+distinct-new names name distinct free =
+    let none = list_any_none (bytes_eq name) names
+    (λ k d within. position-None (bytes_eq name) names k d free within) in
+    distinct-push names name ∙ (λ i. distinct i && not (none i))

@@ -44,15 +44,6 @@ pub record IsAround (frame : ℕ) (found : List Found) (low high : ℕ) : Type 0
   pub before : (k : ℕ) (d : Found) → k < low → (get_or found k d).frame < frame
   pub behind : (k : ℕ) (d : Found) → high ≤ k → k < length found → frame ≤ (get_or found k d).frame
 
--- all are between the ends
-pub around-all : (frame : ℕ) (found : List Found) → IsAround frame found 0 (length found)
-around-all frame found = record {
-  ordered = omega arith;
-  within = omega arith;
-  before = λ k d below. absurd (omega arith);
-  behind = λ k d from to. absurd (omega arith);
-}
-
 -- a channel of an earlier frame is before the place sought
 pub around-above : (frames frame : ℕ) (found : List Found) (low middle high : ℕ) (d : Found) →
     AreInOrder frames found → IsAround frame found low high → low ≤ middle → middle < high →

@@ -1,10 +1,10 @@
 -- Items that are spelled one list after another.
-use Rattle.std.proofs.Common.{◌≡◌, ℕ, ◌+◌, ◌<◌, List, [], ◌∷◌, ◌++◌, length, map, take, get_or, refl, sym, ap}
-use Rattle.std.proofs.Common.{◌∙◌, append_assoc, append-nil, add-one}
+use Rattle.std.proofs.Common.{◌≡◌, ℕ, zero, suc, ◌+◌, ◌<◌, List, [], ◌∷◌, ◌++◌, length, map, take, get_or, refl, sym, ap}
+use Rattle.std.proofs.Common.{◌∙◌, append_assoc, append-nil, add-one, arith}
 use Rattle.std.specs.List.{flat_map}
 use Rattle.std.proofs.Math.Seq.{take-suc}
 use Rattle.std.proofs.lemmas.Grind.{flat_map-append}
-use Rattle.std.proofs.lemmas.List.{map-append}
+use Rattle.std.proofs.lemmas.List.{length-append, map-append}
 use Rattle.record_values.specs.Spelling.{AreItems}
 use Rattle.layout_plan.specs.Appends.{Appends}
 use Rattle.layout_plan.proofs.AppendLemmas.{Appends-none, Appends-more}
@@ -41,6 +41,12 @@ pub list_push : {X : Type 0} (R : X → List ℕ → Type 0) (xs : List X) (x : 
 list_push R xs x zs old mid new all before one =
     Appends-more (AreItems R xs) (R x) (AreItems R zs) old mid new before one
     (λ front back items r. rw all (AreItems-append R xs (x ∷ []) front back items (AreItems-one R x back r)))
+
+-- there are as many numbers below a bound as it says
+pub length-numbers_below : (n : ℕ) → length (numbers_below n) ≡ n
+unfolding numbers_below
+length-numbers_below zero = refl
+length-numbers_below (suc n) = omega (arith, length-append (numbers_below n) (n ∷ []), length-numbers_below n)
 
 -- one more number below a bound
 pub numbers_below-more : (n : ℕ) → numbers_below (n + 1) ≡ numbers_below n ++ n ∷ []

@@ -7,7 +7,6 @@ use Rattle.std.specs.Option.{option_map, option_map_or}
 use Rattle.std.proofs.lemmas.Bool.{false≢true, and_parts}
 use Rattle.std.proofs.lemmas.List.{take-append-drop}
 use Rattle.std.proofs.lemmas.Option.{same_Some, none-some, option_and_then_some, slice_get_within, slice_get-get_or}
-use Rattle.scalar_types.specs.declared.Width.{Width}
 use Rattle.scalar_types.specs.declared.Width.TheVariants.{Four, Eight}
 use Rattle.type_text.specs.declared.types.Base.{Base}
 use Rattle.type_text.specs.declared.types.Base.TheVariants.{Int4U, Int8U}
@@ -120,6 +119,25 @@ made-of named last e ty f typed made =
           counts = counted ∙ ap (λ (f : Field). Some f.counts) same;
         }
 
+no-counts : (named : List ℕ → Option Count) (dims : List Dim) (counts : List Count) → has_no_dims dims ≡ true
+    → counts_of named dims ≡ Some counts → counts ≡ []
+no-counts named [] counts none made = sym (same_Some [] counts made)
+no-counts named (d ∷ ds) counts none made = absurd (false≢true none)
+
+-- the field of an element without dimension
+pub typed-field : (es : List Element) (fs : List Field) (i : ℕ) (e : Element) (ty : ElementType)
+    → layout_of es ≡ Some fs → slice_get es i ≡ Some e → e.ty ≡ Some ty → has_no_dims ty.dims ≡ true
+    → IsSingleField fs i (form_of ty.base)
+typed-field es fs i e ty layout at typed single =
+    let field = field-at es fs i e layout at in
+    let made = made-of (count_in (take i es)) field.last e ty field.field typed field.made in
+    record {
+      field = field.field;
+      is = field.is;
+      form_is = made.form;
+      single = no-counts (count_in (take i es)) ty.dims field.field.counts single made.counts;
+    }
+
 -- ---- a field that counts
 
 -- what is found where a test holds
@@ -152,31 +170,18 @@ count-form Int4U t = inl refl
 count-form Int8U t = inr refl
 count-form base t = absurd (false≢true t)
 
-no-counts : (named : List ℕ → Option Count) (dims : List Dim) (counts : List Count) → has_no_dims dims ≡ true
-    → counts_of named dims ≡ Some counts → counts ≡ []
-no-counts named [] counts none made = sym (same_Some [] counts made)
-no-counts named (d ∷ ds) counts none made = absurd (false≢true none)
-
 -- the first element of a name that counts is a number of 4 or 8 bytes
 pub wide-field : (es : List Element) (fs : List Field) (name : List ℕ) → layout_of es ≡ Some fs
     → has_named es name is_count ≡ true → IsWideField fs (field_named es name)
 wide-field es fs name layout t =
     let found = counter-named es name t in
     let counter = counter-is found.0.1 found.2 in
-    let named = count_in (take found.0.0 es) in
-    let field = field-at es fs found.0.0 found.0.1 layout (named-at es name found.0.0 found.0.1 found.1).0 in
-    let made = made-of named field.last found.0.1 counter.ty field.field counter.is field.made in
-    let single : (w : Width) → form_of counter.ty.base ≡ Number w → IsSingleField fs found.0.0 (Number w) =
-    λ w form. record {
-      field = field.field;
-      is = field.is;
-      form_is = made.form ∙ form;
-      single = no-counts named counter.ty.dims field.field.counts counter.single made.counts;
-    } in
+    let at = named-at es name found.0.0 found.0.1 found.1 in
+    let field = typed-field es fs found.0.0 found.0.1 counter.ty layout at.0 counter.is counter.single in
     subst (IsWideField fs) (number-is es name found.0 found.1)
     (elim (count-form counter.ty.base counter.counts) [
-      | inl form ↦ inl (single Four form)
-      | inr form ↦ inr (single Eight form)
+      | inl form ↦ inl (subst (IsSingleField fs found.0.0) form field)
+      | inr form ↦ inr (subst (IsSingleField fs found.0.0) form field)
     ])
 
 number-of_wide : (fs : List Field) (k : ℕ) → IsWideField fs k → IsNumberField fs k

@@ -33,7 +33,8 @@ use Rattle.contents_table.specs.Channels.{next_field, name_field, target, head}
 use Rattle.contents_table.specs.Layouts.{AreOf, elements_named, head_to, head_in, upper_of, list_by, list_of}
 use Rattle.contents_table.specs.Layouts.{list_in}
 use Rattle.contents_table.specs.Layouts.{layouts_of, HasPlainLink, IsNamed}
-use Rattle.contents_table.proofs.ElementFields.{single-base, passes_by, named-at, single-field}
+use Rattle.contents_table.proofs.ElementFields.{single-base, passes_by, single-field}
+use Rattle.contents_table.proofs.FirstNamed.{named-at}
 use Rattle.contents_table.proofs.Positions.{position-found, position-map}
 use Rattle.contents_table.proofs.ReadRecords.{ArePlansOf, elements-record}
 use Rattle.contents_table.proofs.SomeValues.{some-and}
@@ -99,7 +100,7 @@ pub field-element : (passes : Base → Bool) (name : List ℕ) (es : List Elemen
 field-element passes name es k found =
     option_and_then_some (number_where passes) (first_named 0 es name) k found (λ p first number.
     let parts = cond_some (is_single passes p.1) p.0 k number in
-    single-element passes es k p.1 (ap (slice_get es) (sym parts.1) ∙ named-at es name p.0 p.1 first) parts.0)
+    single-element passes es k p.1 (ap (slice_get es) (sym parts.1) ∙ (named-at es name p.0 p.1 first).0) parts.0)
 
 pub head-element : (name : List ℕ) (es : List Element) (k : ℕ) → head_field name es ≡ Some k
     → IsSingleElement (is_link_to name) es k

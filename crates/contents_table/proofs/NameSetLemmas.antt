@@ -5,8 +5,7 @@ use Rattle.std.specs.Prelude.{◌&&◌, ◌||◌, not, slice_get}
 use Rattle.std.specs.List.{list_any}
 use Rattle.std.specs.Str.{bytes_eq}
 use Rattle.std.specs.Borrow.{Bor}
-use Rattle.std.specs.Cmp.{nat_eq_equiv}
-use Rattle.std.specs.Cmp.Lexicographic.{slice_cmp, lists_equiv}
+use Rattle.std.specs.Cmp.Lexicographic.{slice_cmp, nat_list_eq_equiv}
 use Rattle.std.specs.Ordering.{nat_cmp}
 use Rattle.std.specs.BTreeSet.{BTreeSet, Updates}
 use Rattle.std.proofs.lemmas.List.{take-append-drop}
@@ -15,31 +14,9 @@ use Rattle.std.proofs.lemmas.Map.Text.{is_eq-slice_cmp}
 use Rattle.layout_plan.proofs.ReadingLemmas.{element-at}
 use Rattle.contents_table.specs.Built.{are_distinct}
 use Rattle.contents_table.specs.Views.{holds}
-
-pub bytes_eq-turned : (xs ys : List ℕ) → bytes_eq xs ys ≡ bytes_eq ys xs
-bytes_eq-turned xs ys = (lists_equiv nat_eq_equiv).symm xs ys
+use Rattle.contents_table.proofs.Distinct.{distinct-push}
 
 -- ---- distinct names
-
-others-apart : (here there more distinct : Bool) → (not (here || (there || false)) && (distinct && not more))
-    ≡ ((not here && distinct) && not (there || more))
-others-apart true there more distinct = refl
-others-apart false true more true = refl
-others-apart false true more false = refl
-others-apart false false true true = refl
-others-apart false false true false = refl
-others-apart false false false true = refl
-others-apart false false false false = refl
-
--- one more name
-distinct-push : (names : List (List ℕ)) (name : List ℕ)
-    → are_distinct (names ++ name ∷ []) ≡ (are_distinct names && not (list_any (bytes_eq name) names))
-distinct-push [] name = refl
-distinct-push (n ∷ names) name =
-    (λ i. not (list_any-append (bytes_eq n) names (name ∷ []) i) && distinct-push names name i)
-    ∙ ap (λ b. not (list_any (bytes_eq n) names || (b || false))
-    && (are_distinct names && not (list_any (bytes_eq name) names))) (bytes_eq-turned n name)
-    ∙ others-apart (list_any (bytes_eq n) names) (bytes_eq name n) (list_any (bytes_eq name) names) (are_distinct names)
 
 pub distinct-more : (names : List (List ℕ)) (k : ℕ) (name : List ℕ) → slice_get names k ≡ Some name
     → are_distinct (take (k + 1) names) ≡ (are_distinct (take k names) && not (list_any (bytes_eq name) (take k names)))
@@ -95,7 +72,7 @@ holds-more names k met more key is updates before name =
     holds-insert met more key updates name
     ∙ ap (cond (bytes_eq key.now name) true) (before name)
     ∙ joined (bytes_eq key.now name) (list_any (bytes_eq name) (take k names))
-    ∙ ap (λ b. list_any (bytes_eq name) (take k names) || (b || false)) (bytes_eq-turned key.now name)
+    ∙ ap (λ b. list_any (bytes_eq name) (take k names) || (b || false)) (nat_list_eq_equiv.symm key.now name)
     ∙ sym (ap (list_any (bytes_eq name)) (element-at names k key.now is).through
     ∙ list_any-append (bytes_eq name) (take k names) (key.now ∷ []))
   where

@@ -17,7 +17,7 @@ use Rattle.contents_table.specs.declared.names.Listed.{Listed}
 use Rattle.contents_table.specs.Built.{name_in, are_distinct}
 use Rattle.contents_table.specs.Kept.{number_in, AreNumbered}
 use Rattle.contents_table.proofs.Adding.{names-set}
-use Rattle.contents_table.proofs.Distinct.{distinct-push}
+use Rattle.contents_table.proofs.Distinct.{distinct-new}
 
 -- ---- keys of bytes
 
@@ -85,7 +85,7 @@ numbered-push listed l numbers more key n kept free is number updates =
     map-append name_in listed (l ∷ []) in
     let size : length listed ≡ length (map name_in listed) = sym (length-map listed name_in) in
     record {
-      distinct = ap are_distinct names ∙ distinct-push (map name_in listed) l.name kept.distinct free;
+      distinct = ap are_distinct names ∙ distinct-new (map name_in listed) l.name kept.distinct free;
       found = λ name.
           bytes_updates key.items numbers more (Some n) updates name
           ∙ (λ i. cond (bytes_eq (is i) name) (Some ((number ∙ size) i)) (kept.found name i))

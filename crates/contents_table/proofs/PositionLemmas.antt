@@ -13,6 +13,7 @@ use Rattle.contents_table.specs.declared.names.Listed.{Listed}
 use Rattle.contents_table.specs.Built.{position_in, numbers_below}
 use Rattle.contents_table.specs.Told.{positions_of}
 use Rattle.contents_table.specs.Listed.{KindTable, position_at}
+use Rattle.contents_table.proofs.Items.{length-numbers_below}
 
 -- a row for each of xs, in which each of ys has a number
 abbrev rows : {X Y : Type 0} → (X → Y → ℕ) → List X → List Y → List ℕ
@@ -86,11 +87,6 @@ slice_get-front (z ∷ xs) ys (suc k) x e = slice_get-front xs ys k x e
 slice_get-last : {X : Type 0} (xs : List X) (x : X) → slice_get (xs ++ x ∷ []) (length xs) ≡ Some x
 slice_get-last [] x = refl
 slice_get-last (z ∷ xs) x = slice_get-last xs x
-
-length-numbers_below : (n : ℕ) → length (numbers_below n) ≡ n
-unfolding numbers_below
-length-numbers_below zero = refl
-length-numbers_below (suc n) = omega (arith, length-append (numbers_below n) (n ∷ []), length-numbers_below n)
 
 number-below : (n j : ℕ) → j < n → slice_get (numbers_below n) j ≡ Some j
 unfolding numbers_below

@@ -34,13 +34,9 @@ use Rattle.contents_table.specs.Tells.{IsListOf, AreTold}
 use Rattle.contents_table.proofs.ToldValues.{drop-at, table-at, number-at}
 use Rattle.contents_table.proofs.TellingFields.{Shape, shape-at, frames-told, heads-told, count-told}
 use Rattle.contents_table.proofs.TellingFields.{names-told}
+use Rattle.contents_table.proofs.Items.{length-numbers_below}
 
 -- ---- how many positions there are
-
-length-numbers_below : (n : ℕ) → length (numbers_below n) ≡ n
-unfolding numbers_below
-length-numbers_below zero = refl
-length-numbers_below (suc n) = omega (arith, length-append (numbers_below n) (n ∷ []), length-numbers_below n)
 
 -- parts of the same length
 length-parts : {X Y : Type 0} (f : X → List Y) (n : ℕ) → ((x : X) → length (f x) ≡ n) → (xs : List X)

@@ -13,6 +13,8 @@ use Rattle.contents_table.specs.declared.kind.Kind.{Kind}
 use Rattle.contents_table.specs.declared.kind.Kind.TheVariants.{Adc, Proc, Sim, Ser}
 use Rattle.contents_table.specs.declared.names.Found.{Found}
 use Rattle.contents_table.specs.declared.names.Listed.{Listed}
+use Rattle.contents_table.specs.declared.places.Places.{Places}
+use Rattle.contents_table.specs.declared.places.Places.TheVariants.{OfSource, At}
 use Rattle.contents_table.specs.Channels.{named_channels, name_of, header_of}
 
 -- the place of each frame's FrameH, and the names of each kind in the order in which they first came
@@ -91,23 +93,37 @@ unfoldable pub numbers_below : ℕ → List ℕ
 numbers_below zero = []
 numbers_below (suc n) = numbers_below n ++ n ∷ []
 
--- ---- a frame of a segment
+-- ---- a frame with its channels
+
+-- the place of the record of a number
+abbrev pub place_of : List ℕ → ℕ → ℕ
+place_of places k = slice_index_or places k 0
 
 -- the channels of a kind, by their names and the places of their records
-abbrev pub place_of : List Bodied → ℕ → ℕ
-place_of nodes k = slice_index_or (map (λ (r : Bodied). r.node.at) nodes) k 0
+abbrev pub with_named : Kind → List ℕ → Built → List ℕ × ℕ → Built
+with_named kind places built channel = with_channel kind channel.0 (place_of places channel.1) built
 
-abbrev pub with_named : Kind → List Bodied → Built → List ℕ × ℕ → Built
-with_named kind nodes built channel = with_channel kind channel.0 (place_of nodes channel.1) built
+abbrev pub with_channels : List ℕ → Frame → Built → Kind → Built
+with_channels places f built kind = fold (with_named kind places) built (named_channels f kind)
 
-abbrev pub with_channels : List Bodied → Frame → Built → Kind → Built
-with_channels nodes f built kind = fold (with_named kind nodes) built (named_channels f kind)
-
--- One more frame, whose records are these, with its channels of all kinds.
-abbrev pub with_frame_of : List Bodied → Frame → Built → Built
-with_frame_of nodes f built =
-    fold (with_channels nodes f) (with_frame (option_map_or (place_of nodes) (header_of f) 0) built)
+-- One more frame, whose records stand at these places, with its channels of all kinds.
+abbrev pub with_frame_at : List ℕ → Frame → Built → Built
+with_frame_at places f built =
+    fold (with_channels places f) (with_frame (option_map_or (place_of places) (header_of f) 0) built)
     (Adc ∷ Proc ∷ Sim ∷ Ser ∷ [])
+
+-- the places of a segment's records
+abbrev pub places_of : List Bodied → List ℕ
+places_of nodes = map (λ (r : Bodied). r.node.at) nodes
+
+-- where a segment's records stand: in the file that they come from, or at the places that are given
+abbrev pub places_in : List Bodied → Places → List ℕ
+places_in nodes OfSource = places_of nodes
+places_in nodes (At places) = places.now
+
+-- One more frame, which is that of a segment with these records.
+abbrev pub with_frame_of : List Bodied → Frame → Built → Built
+with_frame_of nodes f = with_frame_at (places_of nodes) f
 
 -- ---- what is kept
 
@@ -126,10 +142,10 @@ pub record AreNames (frames : ℕ) (listed : List Listed) : Type 0 where
   pub names : All (IsName frames) listed
   pub distinct : are_distinct (map name_in listed) ≡ true
 
--- ---- one channel of a segment
+-- ---- one channel of a frame
 
 -- one more record of a channel, which counts where it has a name
-abbrev pub with_record : List Bodied → Frame → Kind → Built → ℕ → Built
-with_record nodes f kind built node =
-    option_map_or (λ name. with_channel kind name (place_of nodes node) built)
+abbrev pub with_record : List ℕ → Frame → Kind → Built → ℕ → Built
+with_record places f kind built node =
+    option_map_or (λ name. with_channel kind name (place_of places node) built)
     (name_of (label_at f node)) built

@@ -187,8 +187,8 @@ list_named elements name passes names =
     if has_list elements name passes names then Some (field_named elements name) else None
 
 -- the positions of a kind in either order, and whether those of one name stand together
-abbrev pub positions_of : List Element → Kind → Option (ℕ × Bool)
-positions_of elements kind =
+abbrev pub positions_named : List Element → Kind → Option (ℕ × Bool)
+positions_named elements kind =
     if has_positions_by_name elements kind || has_positions_by_frame elements kind
     then Some (field_named elements (positions_field kind), has_positions_by_name elements kind) else None
 

@@ -82,11 +82,12 @@ table_of layout values = record {
   ser = option_map (kind_table values layout.frames) layout.ser;
 }
 
-abbrev pub kind_of : Table → Kind → Option KindTable
-kind_of table Adc = Some table.adc
-kind_of table Proc = Some table.proc
-kind_of table Sim = Some table.sim
-kind_of table Ser = table.ser
+-- what it lists of a kind
+abbrev pub table_of_kind : Table → Kind → Option KindTable
+table_of_kind table Adc = Some table.adc
+table_of_kind table Proc = Some table.proc
+table_of_kind table Sim = Some table.sim
+table_of_kind table Ser = table.ser
 
 -- the position of the name of number k in a frame
 abbrev pub place_of_position : KindTable → ℕ → ℕ → ℕ
@@ -102,7 +103,7 @@ find_in name frame t = option_map (position_at t frame) (position (bytes_eq name
 
 abbrev pub find_position : Table → Kind → List ℕ → ℕ → Option ℕ
 find_position table kind name frame =
-    option_map_or (find_in name frame) (kind_of table kind) None
+    option_map_or (find_in name frame) (table_of_kind table kind) None
 
 -- ---- good tables
 
@@ -119,7 +120,7 @@ pub record IsGoodKind (listed : List Listed) (t : KindTable) : Type 0 where
 
 abbrev pub IsGoodOf : Table → Built → Kind → Type 0
 IsGoodOf table built kind =
-    IfSome (kind_of table kind) (IsGoodKind (listed_of built kind))
+    IfSome (table_of_kind table kind) (IsGoodKind (listed_of built kind))
 
 -- The table is good: it lists the places of the frames' FrameH, and each of its kinds is good.
 pub record IsGood (table : Table) (built : Built) : Type 0 where

@@ -6,7 +6,9 @@ ghost use Rattle.dictionary.specs.declared.entries.Entry.{Entry};
 ghost use Rattle.link_graph.specs.Graph.{Layouts, ReadsBy};
 ghost use Rattle.frame_content.specs.Frames.{frame_of};
 ghost use Rattle.contents_table.specs.Built.{nothing_built, with_frame, with_channel, with_channels};
-ghost use Rattle.contents_table.specs.Built.{with_frame_of, with_record, listed_of, place_of, AreNames};
+ghost use Rattle.contents_table.specs.Built.{with_frame_of, with_frame_at, with_record, listed_of};
+ghost use Rattle.contents_table.specs.Built.{place_of, places_in};
+ghost use Rattle.contents_table.specs.Built.{AreNames};
 ghost use Rattle.contents_table.specs.Channels.{header_of, channels};
 ghost use Rattle.contents_table.specs.Layouts.{AreOf};
 
@@ -14,6 +16,7 @@ use crate::channel_lists::{channel_name, channels, header};
 use crate::kind::Kind;
 use crate::layouts::ChannelLayouts;
 use crate::names::{Found, Names};
+use crate::places::Places;
 use layout_plan::Plans;
 use link_graph::Segment;
 use std::alloc::{AllocError, Global};
@@ -110,12 +113,46 @@ impl TableBuilder {
         ensures { OnOk result ((held : List Entry) → AreOf held plans.now layouts.now
             → self.new ≡ with_frame_of segment.now.nodes (frame_of held segment.now) self.old) }
     {
-        let at = header_place(segment, layouts).unwrap_or(0);
+        self.add_frame_with_channels(segment, plans, layouts, Places::OfSource)
+    }
+
+    /// Adds the frame of a segment as `add_segment` does, with its records at these places, by their numbers,
+    /// in bytes from the beginning of the file that is written: 0 for a record that is not written, and for
+    /// those behind the last place.
+    pub fn add_segment_at(
+        &mut self,
+        segment: &Segment,
+        plans: &Plans,
+        layouts: &ChannelLayouts,
+        places: &[u64],
+    ) -> Result<(), AllocError>
+        requires bodies { All (ReadsBy plans.now segment.now.order) segment.now.nodes }
+        ensures { OnOk result ((held : List Entry) → AreOf held plans.now layouts.now
+            → self.new ≡ with_frame_at places.now (frame_of held segment.now) self.old) }
+    {
+        self.add_frame_with_channels(segment, plans, layouts, Places::At(places))
+    }
+
+    /// Adds the frame of a segment whose records stand at these places, with the channels of all kinds.
+    fn add_frame_with_channels(
+        &mut self,
+        segment: &Segment,
+        plans: &Plans,
+        layouts: &ChannelLayouts,
+        places: Places<'_>,
+    ) -> Result<(), AllocError>
+        requires bodies { All (ReadsBy plans.now segment.now.order) segment.now.nodes }
+        ensures { OnOk result ((held : List Entry) → AreOf held plans.now layouts.now
+            → self.new
+            ≡ with_frame_at (places_in segment.now.nodes places.entry) (frame_of held segment.now)
+            self.old) }
+    {
+        let at = header_place(segment, layouts, places).unwrap_or(0);
         self.add_frame(at)?;
-        self.add_channels(segment, plans, layouts, Kind::Adc)?;
-        self.add_channels(segment, plans, layouts, Kind::Proc)?;
-        self.add_channels(segment, plans, layouts, Kind::Sim)?;
-        self.add_channels(segment, plans, layouts, Kind::Ser)
+        self.add_channels(segment, plans, layouts, places, Kind::Adc)?;
+        self.add_channels(segment, plans, layouts, places, Kind::Proc)?;
+        self.add_channels(segment, plans, layouts, places, Kind::Sim)?;
+        self.add_channels(segment, plans, layouts, places, Kind::Ser)
     }
 
     /// Adds the channels of a kind to the frame that was added last.
@@ -124,17 +161,20 @@ impl TableBuilder {
         segment: &Segment,
         plans: &Plans,
         layouts: &ChannelLayouts,
+        places: Places<'_>,
         kind: Kind,
     ) -> Result<(), AllocError>
         requires bodies { All (ReadsBy plans.now segment.now.order) segment.now.nodes }
         requires frame { self.old.heads ≢ [] }
         ensures frame { self.new.heads ≡ self.old.heads }
         ensures ok { OnOk result ((held : List Entry) → AreOf held plans.now layouts.now
-            → self.new ≡ with_channels segment.now.nodes (frame_of held segment.now) self.old kind) }
+            → self.new
+            ≡ with_channels (places_in segment.now.nodes places.entry) (frame_of held segment.now)
+            self.old kind) }
     {
         let nodes = channels(self.alloc, segment, plans, layouts, kind)?;
         for node in nodes.as_slice() {
-            self.add_record(segment, plans, layouts, kind, *node)?;
+            self.add_record(segment, plans, layouts, places, kind, *node)?;
         }
         Ok(())
     }
@@ -145,6 +185,7 @@ impl TableBuilder {
         segment: &Segment,
         plans: &Plans,
         layouts: &ChannelLayouts,
+        places: Places<'_>,
         kind: Kind,
         node: u32,
     ) -> Result<(), AllocError>
@@ -154,10 +195,12 @@ impl TableBuilder {
         ensures frame { self.new.heads ≡ self.old.heads }
         ensures ok { OnOk result ((held : List Entry) → AreOf held plans.now layouts.now
             → Contains (channels (frame_of held segment.now) kind) node
-            → self.new ≡ with_record segment.now.nodes (frame_of held segment.now) kind self.old node) }
+            → self.new
+            ≡ with_record (places_in segment.now.nodes places.entry) (frame_of held segment.now) kind
+            self.old node) }
     {
         match channel_name(segment, plans, layouts, kind, node) {
-            Some(name) => self.add_channel(kind, name, segment.node(node).at),
+            Some(name) => self.add_channel(kind, name, places.of(segment, node)),
             None => Ok(()),
         }
     }
@@ -202,12 +245,14 @@ impl TableBuilder {
     }
 }
 
-/// The place of the record that describes the whole frame, in bytes from the beginning of the file.
-fn header_place(segment: &Segment, layouts: &ChannelLayouts) -> Option<u64>
+/// The place of the record that describes the whole frame.
+fn header_place(segment: &Segment, layouts: &ChannelLayouts, places: Places<'_>) -> Option<u64>
     ensures { (held : List Entry) (plans : Layouts) → AreOf held plans layouts.now
         → All (ReadsBy plans segment.now.order) segment.now.nodes
-        → result ≡ option_map (place_of segment.now.nodes) (header_of (frame_of held segment.now)) }
+        → result
+        ≡ option_map (place_of (places_in segment.now.nodes places.entry))
+        (header_of (frame_of held segment.now)) }
 {
     let node = header(segment, layouts.frame_header?)?;
-    Some(segment.node(node).at)
+    Some(places.of(segment, node))
 }

@@ -5,7 +5,7 @@ ghost use Rattle.std.specs.Prelude.{if◌then◌else◌};
 ghost use Rattle.type_text.specs.declared.types.Base.{Base};
 ghost use Rattle.layout_plan.specs.Layout.{layout_of};
 ghost use Rattle.contents_table.specs.Fit.{is_fit, has_table, table_layout, fields_of, IsTableLayout};
-ghost use Rattle.contents_table.specs.Fit.{lists, lacks, kind_fields, serial_fields, positions_of};
+ghost use Rattle.contents_table.specs.Fit.{lists, lacks, kind_fields, serial_fields, positions_named};
 ghost use Rattle.contents_table.specs.Fit.{count_named, list_named, PassesOnly};
 
 use crate::kind::Kind;
@@ -20,22 +20,22 @@ const HEADS: &[u8] = b"positionH";
 /// The fields of a kind, by their numbers: how many names there are, the names, and their positions.
 #[derive(Clone, Copy)]
 pub struct KindFields {
-    pub count: u32,
-    pub names: u32,
-    pub positions: u32,
+    pub(crate) count: u32,
+    pub(crate) names: u32,
+    pub(crate) positions: u32,
     /// Whether the positions of one name stand together, and not those of one frame.
-    pub by_name: bool,
+    pub(crate) by_name: bool,
 }
 
 /// The fields of a contents table, by their numbers in its layout.
 #[derive(Clone, Copy)]
 pub struct TableLayout {
-    pub frames: u32,
-    pub heads: u32,
-    pub adc: KindFields,
-    pub proc: KindFields,
-    pub sim: KindFields,
-    pub ser: Option<KindFields>,
+    pub(crate) frames: u32,
+    pub(crate) heads: u32,
+    pub(crate) adc: KindFields,
+    pub(crate) proc: KindFields,
+    pub(crate) sim: KindFields,
+    pub(crate) ser: Option<KindFields>,
 }
 
 impl TableLayout {
@@ -131,7 +131,7 @@ fn kind_fields(elements: &[Element], kind: Kind) -> Option<KindFields>
 /// The positions of a kind, and whether those of one name stand together.
 fn positions_named(elements: &[Element], kind: Kind) -> Option<(u32, bool)>
     requires { length elements.now ≤ 4096 }
-    ensures { result ≡ positions_of elements.now kind }
+    ensures { result ≡ positions_named elements.now kind }
 {
     let name = kind.positions_field();
     let counter = kind.count_field();

@@ -20,29 +20,29 @@ pub const RAW_DATA: &[u8] = b"FrRawData";
 /// A link to the first record of a list: the number of its field, and the class that it names.
 #[derive(Clone, Copy)]
 pub struct Head {
-    pub field: u32,
-    pub class: u8,
+    pub(crate) field: u32,
+    pub(crate) class: u8,
 }
 
 /// The fields that the channels of a kind hang on: the head of their list, the link to the next one, and the
 /// name.
 #[derive(Clone, Copy)]
 pub struct ListLayout {
-    pub head: Head,
-    pub next: Option<u32>,
-    pub name: Option<u32>,
+    pub(crate) head: Head,
+    pub(crate) next: Option<u32>,
+    pub(crate) name: Option<u32>,
 }
 
 /// Where the layouts of a dictionary have the links to channels and their names. It is found once for all
 /// frames that are read by the dictionary, and again when that has got an entry.
 #[derive(Clone, Copy)]
 pub struct ChannelLayouts {
-    pub frame_header: Option<u8>,
-    pub raw_data: Option<Head>,
-    pub adc: Option<ListLayout>,
-    pub proc: Option<ListLayout>,
-    pub sim: Option<ListLayout>,
-    pub ser: Option<ListLayout>,
+    pub(crate) frame_header: Option<u8>,
+    pub(crate) raw_data: Option<Head>,
+    pub(crate) adc: Option<ListLayout>,
+    pub(crate) proc: Option<ListLayout>,
+    pub(crate) sim: Option<ListLayout>,
+    pub(crate) ser: Option<ListLayout>,
 }
 
 impl ChannelLayouts {

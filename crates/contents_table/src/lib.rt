@@ -12,6 +12,7 @@ mod kind_view;
 mod layouts;
 mod lent;
 mod names;
+mod places;
 mod spelling;
 mod view;
 mod writing;

@@ -5,7 +5,7 @@ ghost use Rattle.std.specs.Option.{option_copied};
 ghost use Rattle.layout_plan.specs.Body.{HasBody, IsBody};
 ghost use Rattle.record_values.specs.declared.values.Value.{Value};
 ghost use Rattle.contents_table.specs.Fit.{IsTableLayout};
-ghost use Rattle.contents_table.specs.Listed.{table_of, find_position, IsGood, IsGoodOf, kind_of};
+ghost use Rattle.contents_table.specs.Listed.{table_of, table_of_kind, find_position, IsGood, IsGoodOf};
 
 use crate::builder::TableBuilder;
 use crate::fit::TableLayout;
@@ -155,7 +155,7 @@ impl<'a> TableView<'a> {
     }
 
     fn kind(&self, kind: Kind) -> Option<&KindView<'a>>
-        ensures kind { option_copied result ≡ kind_of self.now kind }
+        ensures kind { option_copied result ≡ table_of_kind self.now kind }
         ensures frames { IfSome result (λ view. view.now.frames ≡ self.now.frames) }
     {
         match kind {

@@ -20,14 +20,10 @@ use crate::spelling::{
     TEXT_FRAME, TOO_MANY, item_size, push_blank, push_names, push_places, push_positions,
     push_single,
 };
+use file_grammar::RECORD_LIMIT;
+use frame_head::HEAD_SIZE;
 use layout_plan::{Field, Plan, capped_count};
 use std::alloc::AllocError;
-
-/// The most bytes of a record.
-const RECORD_LIMIT: u64 = 4_294_967_295;
-
-/// The bytes of a record before its body.
-const COMMON_SIZE: u64 = 14;
 
 /// What a field of the table tells.
 #[derive(Clone, Copy)]
@@ -103,7 +99,7 @@ impl TableBuilder {
         requires { AreTold fields.now layout.now self.now numbers.now }
         ensures { IsTrue result ↔ (table_size layout.now fields.now self.now ≤ 4294967295) }
     {
-        let mut size = COMMON_SIZE;
+        let mut size = HEAD_SIZE as u64;
         for (k, field) in fields.iter().enumerate() {
             size += self.field_size(told_by(layout, k as u32), field, numbers);
             if size > RECORD_LIMIT {

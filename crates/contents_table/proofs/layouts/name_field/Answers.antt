@@ -1,5 +1,5 @@
-use Rattle.std.proofs.Common.{arith}
-use Rattle.contents_table.proofs.ElementFields.{named-within}
+use Rattle.std.proofs.Common.{sym, arith}
+use Rattle.contents_table.proofs.FirstNamed.{named-within}
 use Rattle.contents_table.proofs.layouts.name_field.Goals as goal
 
 pub overflow_cast-result : goal.overflow_cast-result
@@ -8,5 +8,5 @@ overflow_cast-result c =
       arith,
       c.requires,
       named-within c.args.elements.now _ c.in_ok-i.i c.in_ok-i.element.now
-          c.in_ok-i.ensures,
+          (sym c.in_ok-i.ensures),
     )
