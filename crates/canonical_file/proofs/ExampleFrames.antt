@@ -1,15 +1,19 @@
 -- Canonical files of frames with other graphs, by their orders, their sizes and what a contents table lists of them.
 use Prim.Native.String.{String}
-use Rattle.std.proofs.Common.{◌≡◌, ℕ, Some, None, List, [], ◌∷◌, codes, length, refl}
+use Rattle.std.proofs.Common.{◌≡◌, ℕ, Some, None, List, [], ◌∷◌, codes, flat_map, length, refl}
 use Rattle.record_values.specs.declared.values.Value.TheVariants as value
 use Rattle.dictionary.specs.declared.entries.Entry.{Entry}
 use Rattle.rooted_graph.specs.BreadthOrder.{first_occurrences, roots_and_targets}
+use Rattle.frame_content.specs.Labels.{null_link}
 use Rattle.frame_content.specs.Frames.{Row, Frame}
+use Rattle.contents_table.specs.declared.kind.Kind.TheVariants.{Adc}
+use Rattle.contents_table.specs.Channels.{named_channels}
 use Rattle.contents_table.specs.declared.names.Listed.{Listed}
 use Rattle.contents_table.specs.Built.{Built}
 use Rattle.canonical_file.specs.declared.closing.Closing.{Closing}
 use Rattle.canonical_file.specs.Ordered.{frame_graph, ordered}
-use Rattle.canonical_file.specs.Written.{begun, after_frame, after_frames, canonical_file}
+use Rattle.canonical_file.specs.Records.{record_bytes, records_of}
+use Rattle.canonical_file.specs.Written.{begun, frame_part, after_frame, after_frames, canonical_file}
 use Rattle.canonical_file.proofs.Sample.{computing, element, entry, check_sum, table_elements, file_end_entry, closing}
 use Rattle.canonical_file.proofs.Sample.{row, null, header, raw_data, detector, channel, vector, frame_with}
 use Rattle.canonical_file.proofs.Sample.{frame_of_channels, frame}
@@ -36,6 +40,11 @@ twice_heads : (after_frames begun (frame ∷ frame ∷ [])).built.heads ≡ 569 
 unfolding computing
 twice_heads = refl
 
+-- the part of the second one is its records alone, with the instances and links of the first
+second_part : frame_part (after_frame begun frame) frame ≡ flat_map record_bytes (records_of frame)
+unfolding computing
+second_part = refl
+
 -- ---- records in another order, and one that no root reaches
 
 shuffled_rows : Frame
@@ -61,6 +70,15 @@ shuffled_is_order = refl
 shuffled_is : ordered shuffled shuffled_order ≡ frame
 unfolding computing shuffled shuffled_order
 shuffled_is = refl
+
+-- the channels are those of the frame by their numbers in the order
+shuffled_names : named_channels shuffled Adc ≡ (codes "H1:A", 5) ∷ (codes "H1:B", 3) ∷ (codes "H1:C", 1) ∷ []
+unfolding computing shuffled
+shuffled_names = refl
+
+frame_names : named_channels frame Adc ≡ (codes "H1:A", 3) ∷ (codes "H1:B", 5) ∷ (codes "H1:C", 7) ∷ []
+unfolding computing
+frame_names = refl
 
 -- ---- a list of channels that turns back, behind which two more are not reached
 
@@ -111,6 +129,30 @@ twice_named =
 twice_named_listed : (listed_of_first twice_named).adc ≡ listed "H1:A" 1485 ∷ []
 unfolding computing twice_named listed
 twice_named_listed = refl
+
+-- ---- a list of links in place of the plain link to the first channel: a table lists no channel then
+
+list_raw_entry : Entry
+unfolding computing
+list_raw_entry =
+    entry 4 "FrRawData" (element "name" "STRING" ∷ element "firstAdc" "PTR_STRUCT(FrAdcData *)[1]" ∷ check_sum)
+
+list_raw : Row
+unfolding computing list_raw_entry
+list_raw =
+    row list_raw_entry (value.Text (codes "raw") ∷ value.Links (null_link ∷ []) ∷ value.Num 0 ∷ []) (Some 3 ∷ [])
+
+with_list : Frame
+unfolding computing list_raw
+with_list =
+    frame_with
+    (header ∷ list_raw ∷ detector ∷ channel "H1:A" 0 (Some 4) (Some 5) ∷ vector "H1:A" (1 ∷ 2 ∷ 3 ∷ 4 ∷ [])
+    ∷ channel "H1:B" 1 (Some 6) (Some 7) ∷ vector "H1:B" (5 ∷ 6 ∷ 7 ∷ 8 ∷ []) ∷ channel "H1:C" 2 (Some 8) None
+    ∷ vector "H1:C" (9 ∷ 10 ∷ 11 ∷ 12 ∷ []) ∷ [])
+
+with_list_size : length (canonical_file closing (with_list ∷ [])) ≡ 3595
+unfolding computing with_list
+with_list_size = refl
 
 -- ---- serial data
 

@@ -7,7 +7,7 @@ use Rattle.frame_content.specs.Frames.{Frame, no_row, row_at}
 use Rattle.canonical_file.specs.Ordered.{row_links, frame_graph, row_in, ordered}
 
 -- an element of a mapped list, past its end too
-get_or-map_any : {A B : Type 0} (f : A → B) (xs : List A) (n : ℕ) (d : A)
+pub get_or-map_any : {A B : Type 0} (f : A → B) (xs : List A) (n : ℕ) (d : A)
     → get_or (map f xs) n (f d) ≡ f (get_or xs n d)
 get_or-map_any f [] n d = refl
 get_or-map_any f (x ∷ xs) zero d = refl

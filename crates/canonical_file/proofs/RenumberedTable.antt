@@ -12,7 +12,7 @@ use Rattle.contents_table.specs.declared.kind.Kind.TheVariants.{Adc, Proc, Sim, 
 use Rattle.contents_table.specs.Channels.{header_of, channels, name_of, named_channel}
 use Rattle.contents_table.specs.Built.{Built, with_frame, with_channel}
 use Rattle.canonical_file.specs.Ordered.{frame_graph, ordered}
-use Rattle.canonical_file.specs.Written.{place_of, with_named, with_channels, with_frame_at}
+use Rattle.contents_table.specs.Built.{place_of, with_named, with_channels, with_frame_at}
 use Rattle.canonical_file.specs.Renumbered.{IsLinked, HasOneHeader, number_in, renumbered_channel}
 use Rattle.canonical_file.proofs.RenumberedLinks.{AreIn}
 use Rattle.canonical_file.proofs.RenumberedWalk.{AllIn, number-in}
@@ -81,7 +81,7 @@ kind-places f s places own o linked one are built kind =
     ap (fold (with_named kind places) built) ((are-renumbered f s o linked one).names_are kind)
     ∙ named-places f s places own kind (channels f kind) built are (channels-in f s o one kind)
 
-all-kinds : (g h : Built → Kind → Built) → ((built : Built) (kind : Kind) → g built kind ≡ h built kind)
+pub all-kinds : (g h : Built → Kind → Built) → ((built : Built) (kind : Kind) → g built kind ≡ h built kind)
     → (kinds : List Kind) (built : Built) → fold g built kinds ≡ fold h built kinds
 all-kinds g h same [] built = refl
 all-kinds g h same (kind ∷ kinds) built =

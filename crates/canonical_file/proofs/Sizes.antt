@@ -15,7 +15,8 @@ use Rattle.canonical_file.specs.Records.{piece_of, piece_bytes, pieces_of, recor
 use Rattle.canonical_file.specs.Written.{Written, begun, frame_pieces, frame_part, after_frame, after_frames}
 use Rattle.canonical_file.specs.Written.{frame_parts}
 use Rattle.canonical_file.specs.Written.{table_piece, after_table, end_bytes, end_size, closed_size, way_back}
-use Rattle.canonical_file.specs.Written.{place_of, closing_part, canonical_head, canonical_file}
+use Rattle.contents_table.specs.Built.{place_of}
+use Rattle.canonical_file.specs.Written.{closing_part, canonical_head, canonical_file}
 use Rattle.canonical_file.specs.Sizes.{StandsAt}
 use Rattle.canonical_file.proofs.EndSizes.{end-length}
 

@@ -128,7 +128,7 @@ number-is : (width : Width) (n : ℕ) (bytes : List ℕ) → AreBytes bytes → 
 number-is width n bytes all h =
     sym (bytes_of-number Little width bytes all h.size) ∙ ap (number_bytes width) h.value
 
-parts : {X : Type 0} (P : X → Type 0) (xs ys : List X) → All P (xs ++ ys) → All P xs × All P ys
+pub parts : {X : Type 0} (P : X → Type 0) (xs ys : List X) → All P (xs ++ ys) → All P xs × All P ys
 parts P [] ys all = (All-nil P, all)
 parts P (x ∷ xs) ys all =
     let rest = parts P xs ys (All-tail P x (xs ++ ys) all) in

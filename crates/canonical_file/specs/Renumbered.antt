@@ -8,7 +8,7 @@ use Rattle.contents_table.specs.declared.kind.Kind.{Kind}
 use Rattle.contents_table.specs.Channels.{is_frame_header, header_of, channels, named_channels}
 use Rattle.contents_table.specs.Built.{Built}
 use Rattle.canonical_file.specs.Ordered.{frame_graph, ordered}
-use Rattle.canonical_file.specs.Written.{place_of, with_frame_at}
+use Rattle.contents_table.specs.Built.{place_of, with_frame_at}
 
 -- The roots and the links of a frame lead to its records.
 pub record IsLinked (f : Frame) : Type 0 where

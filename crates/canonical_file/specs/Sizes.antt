@@ -6,7 +6,8 @@ use Rattle.canonical_file.specs.declared.closing.Closing.{Closing}
 use Rattle.canonical_file.specs.Records.{Record, record_bytes, records_of, record_places}
 use Rattle.canonical_file.specs.Written.{Written, begun, after_frames, frame_pieces, frame_part, after_table}
 use Rattle.canonical_file.specs.Written.{closed_size}
-use Rattle.canonical_file.specs.Written.{place_of, canonical_head, canonical_file}
+use Rattle.contents_table.specs.Built.{place_of}
+use Rattle.canonical_file.specs.Written.{canonical_head, canonical_file}
 
 -- The size of what stands is the number of its bytes.
 abbrev pub HeadsHaveTheirSize : Type 0

@@ -50,9 +50,13 @@ NoneClashes closing w (f ∷ fs) = (clash_of closing w.entries f ≡ None) × No
 
 -- ---- frames as they are written
 
--- the frame under these entries: each record has the one of its class, with its comments
+-- the one of these entries that is of the class of an entry, with its own comments
+abbrev pub entry_under : List Entry → Entry → Entry
+entry_under entries e = unwrap_or (entry_of entries e.class) e
+
+-- the frame under these entries: each record has the one of its class
 abbrev pub label_under : List Entry → Label → Label
-label_under entries l = record l { entry = unwrap_or (entry_of entries l.entry.class) l.entry }
+label_under entries l = record l { entry = entry_under entries l.entry }
 
 abbrev pub row_under : List Entry → Row → Row
 row_under entries r = record r { label = label_under entries r.label }

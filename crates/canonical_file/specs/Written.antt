@@ -1,7 +1,7 @@
 -- The canonical file of frames in their orders: the header, the part of each frame, and the closing part. Each part is
 -- a function of what stands before it and of the frame or the closing.
 use Rattle.std.specs.Prelude.{ℕ, zero, suc, ◌+◌, if◌then◌else◌, List, [], ◌∷◌, ◌++◌, length, fold, scan, flat_map}
-use Rattle.std.specs.Prelude.{nat_le, codes, slice_index_or}
+use Rattle.std.specs.Prelude.{nat_le, codes}
 use Rattle.std.specs.Option.{option_map_or}
 use Rattle.frame_head.specs.Header.{header_bytes}
 use Rattle.record_values.specs.declared.values.Value.{Value}
@@ -11,35 +11,12 @@ use Rattle.dictionary.specs.declared.entries.Entry.{Entry}
 use Rattle.file_grammar.specs.Structure.{record_limit}
 use Rattle.file_grammar.specs.Closing.{field_named}
 use Rattle.frame_content.specs.Frames.{Frame}
-use Rattle.contents_table.specs.declared.kind.Kind.{Kind}
-use Rattle.contents_table.specs.declared.kind.Kind.TheVariants.{Adc, Proc, Sim, Ser}
-use Rattle.contents_table.specs.Channels.{named_channels, header_of}
 use Rattle.contents_table.specs.Fit.{table_layout}
-use Rattle.contents_table.specs.Built.{Built, nothing_built, with_frame, with_channel}
+use Rattle.contents_table.specs.Built.{Built, nothing_built, with_frame_at}
 use Rattle.contents_table.specs.Told.{values_told, table_values}
 use Rattle.canonical_file.specs.declared.closing.Closing.{Closing}
 use Rattle.canonical_file.specs.Records.{Record, entry_fields, record_bytes, records_of, new_entry, with_entry}
 use Rattle.canonical_file.specs.Records.{entries_after, Piece, no_piece, piece_bytes, pieces_of, record_places}
-
--- ---- what a table lists of a frame whose records stand at these places
-
--- from contents_table
-abbrev pub place_of : List ℕ → ℕ → ℕ
-place_of places k = slice_index_or places k 0
-
--- from contents_table
-abbrev pub with_named : Kind → List ℕ → Built → List ℕ × ℕ → Built
-with_named kind places built channel = with_channel kind channel.0 (place_of places channel.1) built
-
--- from contents_table
-abbrev pub with_channels : List ℕ → Frame → Built → Kind → Built
-with_channels places f built kind = fold (with_named kind places) built (named_channels f kind)
-
--- from contents_table
-abbrev pub with_frame_at : List ℕ → Frame → Built → Built
-with_frame_at places f built =
-    fold (with_channels places f) (with_frame (option_map_or (place_of places) (header_of f) 0) built)
-    (Adc ∷ Proc ∷ Sim ∷ Ser ∷ [])
 
 -- ---- the parts of frames
 

@@ -6,6 +6,7 @@ ghost use Rattle.canonical_file.specs.FrameLaws.{WrittenBodiesAreOne, FittingBod
 ghost use Rattle.canonical_file.specs.FrameLaws.{EqualContentsHaveOneFile, EqualFramesHaveOneHead};
 ghost use Rattle.canonical_file.specs.Sizes.{HeadsHaveTheirSize, FilesHaveTheirSize};
 ghost use Rattle.canonical_file.specs.Sizes.{RecordsStandAtTheirPlaces};
+ghost use Rattle.canonical_file.specs.SpliceLaws.{SplicesAreWritten, SplicesAreBegun};
 ghost use Rattle.canonical_file.specs.Renumbered.{ChannelsAreRenumbered, TablesAreRenumbered};
 
 /// Equal frames are one frame in their breadth-first orders.
@@ -43,4 +44,10 @@ pub fn sizes_are_told()
     ensures heads { HeadsHaveTheirSize }
     ensures files { FilesHaveTheirSize }
     ensures places { RecordsStandAtTheirPlaces }
+{}
+
+/// The frames of a splice are written under the entries that are used first, whichever they have themselves.
+pub fn splices_are_written()
+    ensures whole { SplicesAreWritten }
+    ensures begun { SplicesAreBegun }
 {}
