@@ -1,13 +1,15 @@
 //! A file read to its end, for what it holds.
 
-ghost use Rattle.std.specs.Prelude.{◌≡◌, IfOk, Err};
+ghost use Rattle.std.specs.Prelude.{◌≡◌, ℕ, List, Some, IfOk, Err};
 ghost use Rattle.frame_outside.specs.Counts.{Rose};
 ghost use Rattle.frame_outside.specs.Shelf.{Told, IsSource, reading_at};
 ghost use Rattle.frame_outside.specs.SlotReader.{Draws};
 ghost use Rattle.file_grammar.specs.Fault.{IsFirstFault};
 ghost use Rattle.file_grammar.specs.declared.fault.Fault.{Fault};
-ghost use Rattle.item_reader.specs.Reader.{file_of};
+ghost use Rattle.item_reader.specs.Reader.{file_of, HasEnded};
+ghost use Rattle.item_reader.specs.declared.item.Item.TheVariants.{FileEnd};
 ghost use Rattle.file_content.specs.Contents.{AreContents};
+ghost use Rattle.file_content.specs.Scanned.{HasScanned};
 
 use crate::scan::Scan;
 use crate::state::TableState;
@@ -54,14 +56,23 @@ pub fn read_contents<S: Shelf>(alloc: Global, shelf: &mut S, slot: u32) -> Resul
         let item = reader.next(shelf)?;
         scan.take(alloc, &reader, item)?;
         if let Item::FileEnd { seek, .. } = item {
-            return Ok(Contents {
-                order: reader.order(),
-                frames: reader.frames(),
-                records: reader.records(),
-                bytes: reader.place(),
-                table: scan.state(seek, reader.place()),
-                channels: scan.channels,
-            });
+            return Ok(contents_of(scan, &reader, seek));
         }
+    }
+}
+
+/// What a file holds of which all items were taken, where its end leads back by so many bytes.
+fn contents_of(scan: Scan, reader: &ItemReader, seek: u64) -> Contents
+    ensures { (file : List ℕ) → HasScanned file reader.now scan → HasEnded file reader.now
+        → ((at class length : ℕ) × (reader.now.last ≡ Some (FileEnd at class length seek)))
+        → AreContents file result }
+{
+    Contents {
+        order: reader.order(),
+        frames: reader.frames(),
+        records: reader.records(),
+        bytes: reader.place(),
+        table: scan.state(seek, reader.place()),
+        channels: scan.channels,
     }
 }
