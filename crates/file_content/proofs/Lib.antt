@@ -5,3 +5,4 @@ pub mod Scanning
 pub mod OneContent
 pub mod WholeFiles
 pub mod WholeContents
+pub mod Begun
