@@ -1,6 +1,6 @@
 -- A well-formed file has one content.
 use Rattle.std.proofs.Common.{◌≡◌, ℕ, zero, suc, ◌⊎◌, inl, inr, Bool, true, false, List, length, Option, Some, None, IfSome}
-use Rattle.std.proofs.Common.{option_and_then, refl, ap, sym, subst, ◌∙◌, cc}
+use Rattle.std.proofs.Common.{option_and_then, refl, ap, sym, subst, ◌∙◌}
 use Rattle.std.proofs.lemmas.Bool.{false≢true}
 use Rattle.std.proofs.lemmas.Slice.Eq.{bytes_eq-Decides}
 use Rattle.std.specs.Bool.{Decides}
@@ -43,7 +43,7 @@ one-state order bytes frames built t (suc n) x y one two =
     one-of order frames built (option_and_then (if_led bytes (suc n)) t) x y one two
 
 -- the state of the table of these items
-IsOf : Order → List Item → ℕ → ℕ → Built → TableState → Type 0
+abbrev IsOf : Order → List Item → ℕ → ℕ → Built → TableState → Type 0
 IsOf order items bytes frames built s =
     IsState order bytes frames built (table_in order items) (seek_or_none (seek_in order items)) s
 
@@ -84,7 +84,7 @@ no-two-contents file c d a b =
 
 -- ---- some state
 
-Decided : Type 0 → Type 0
+abbrev Decided : Type 0 → Type 0
 Decided P = P ⊎ (P → ⊥)
 
 by-test : (P : Type 0) (b : Bool) → Decides b P → Decided P

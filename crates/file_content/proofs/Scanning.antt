@@ -73,7 +73,7 @@ more file order b last scan old item now next may adds = record {
   channels_are = adds.channels ∙ ap (built_of order) (sym (frames-push file order old.items b item old.begins));
   table_is = subst (λ t. IsFound order (after order b item).frames next.channels t next.table)
       (sym (table-push file order old.items b item old.begins)) adds.table;
-  no_table = λ open. table-push file order old.items b item old.begins ∙ adds.none open;
+  no_table = λ none. table-push file order old.items b item old.begins ∙ adds.none none;
   seek_is = λ at class length seek is. seek-push file order old.items b item old.begins
       ∙ adds.seek at class length seek (same-given now (given.FileEnd at class length seek) is);
 }
@@ -102,7 +102,7 @@ settled file before new taken now next same was last has =
 -- ---- entries
 
 -- the dictionary after an entry is the same, or has it beside the others
-Stays : List Entry → Entry → Result (List Entry) AddFault → Type 0
+abbrev Stays : List Entry → Entry → Result (List Entry) AddFault → Type 0
 Stays held e r = (dictionary_by held r ≡ held) ⊎ (dictionary_by held r ≡ held ++ e ∷ [])
 
 either : (held : List Entry) (e : Entry) (b : Bool) (x y : Result (List Entry) AddFault) → Stays held e x
@@ -195,7 +195,7 @@ nothing-added file order b after last now scan next old dictionary frames flag l
   table = subst (λ n. IsFound order n next.channels (table_in order old.items) next.table) (sym frames)
       (subst (λ t. IsFound order b.frames next.channels (table_in order old.items) t) (sym table)
       (subst (λ c. IsFound order b.frames c (table_in order old.items) scan.table) (sym channels) old.table_is));
-  none = λ open. old.no_table (sym flag ∙ open);
+  none = λ none. old.no_table (sym flag ∙ none);
   seek = seek;
 }
 
@@ -308,7 +308,7 @@ frame-brings file before new at class scan next plans old goes same last are lay
               (λ t. IsFound before.order (b.frames + 1) next.channels (table_in before.order old.items) t) (sym table)
               (found-none before.order b.frames (b.frames + 1) scan.channels next.channels
               (table_in before.order old.items) scan.table none old.table_is);
-          none = λ open. none;
+          none = λ flag. none;
           seek = λ at class length seek is. cc;
         })
 
@@ -339,17 +339,17 @@ listed-lent order frames held class body k =
     by true (Some fields) = refl
     by false (Some fields) = refl
 
-pub table-brings : (file : List ℕ) (before new : Reader) (at class length : ℕ) (scan next : Scan) (state : TableState)
-    → HasScanned file before scan → Goes file before (given.Table at class length) new → new.order ≡ before.order
-    → new.last ≡ Some (given.Table at class length)
+pub table-brings : (file : List ℕ) (before new : Reader) (at class size : ℕ) (scan next : Scan) (state : TableState)
+    → HasScanned file before scan → Goes file before (given.Table at class size) new → new.order ≡ before.order
+    → new.last ≡ Some (given.Table at class size)
     → IsJudged (listed_in new.order new.before.frames new.before.dictionary class new.body) scan.channels state
     → next.layouts ≡ scan.layouts → next.channels ≡ scan.channels
     → next.table ≡ Some (record { at = at; state = state }) → HasScanned file new next
-table-brings file before new at class length scan next state old goes same last judged layouts channels table =
+table-brings file before new at class size scan next state old goes same last judged layouts channels table =
     by goes.taken goes.stands goes.tells goes.before goes.body
   where
     now : Given
-    now = given.Table at class length
+    now = given.Table at class size
 
     b : Before
     b = before.before
@@ -376,7 +376,7 @@ table-brings file before new at class length scan next state old goes same last 
         → new.body ≡ body_after h (OtherItem s)
         → HasItems file before.order (after before.order b (OtherItem s)) (Some now) next
     of s may is at_is class_is was body =
-        let then : new.before ≡ after_kind FrTOC b s (weight_of before.order b.dictionary s) =
+        let ended : new.before ≡ after_kind FrTOC b s (weight_of before.order b.dictionary s) =
         was ∙ ap (λ k. after_kind k b s (weight_of before.order b.dictionary s)) is in
         by-kind file before.order b before.last scan old s FrTOC now next may is (record {
           sound = old.sound;
@@ -385,8 +385,8 @@ table-brings file before new at class length scan next state old goes same last 
               ∙ ap (built_of before.order) (sym (append-nil (frames_in before.order old.items)));
           table = subst (λ t. IsFound before.order b.frames next.channels (Some (stored s)) t) (sym table)
               (subst (λ c. IsFound before.order b.frames c (Some (stored s)) (Some (record { at = at; state = state })))
-              (sym channels) (at_is, judged-here s class_is then body));
-          none = λ open. cc;
+              (sym channels) (at_is, judged-here s class_is ended body));
+          none = λ none. cc;
           seek = λ at class length seek is. cc;
         })
 
@@ -394,7 +394,7 @@ table-brings file before new at class length scan next state old goes same last 
         → new.before ≡ after before.order b taken → new.body ≡ body_after h taken → HasScanned file new next
     by (EntryItem head run entry) may tells was body = absurd tells
     by (OtherItem s) may tells was body =
-        let kind_is = is-table (kind h) h s at class length tells in
+        let kind_is = is-table (kind h) h s at class size tells in
         settled file before new (OtherItem s) now next same was last
         (of s may
         (ap (λ (s : Structure). kind_of b.dictionary s.class) (structure-here before.order file b s may) ∙ kind_is.0)
@@ -441,3 +441,21 @@ end-brings file before new at class length seek scan next old goes same last lay
         settled file before new (OtherItem s) now next same was last
         (of s may (ap (λ (s : Structure). kind_of b.dictionary s.class) here ∙ ends.0)
         (ends.1 ∙ ap told (sym here)))
+
+-- ---- any other item
+
+pub other-brings : (file : List ℕ) (before new : Reader) (item : Given) (scan : Scan)
+    → ((at class : ℕ) (changed : Bool) → item ≡ given.Entry at class changed → ⊥)
+    → ((at class : ℕ) → item ≡ given.FrameEnd at class → ⊥)
+    → ((at class size : ℕ) → item ≡ given.Table at class size → ⊥) → HasScanned file before scan
+    → Goes file before item new → new.order ≡ before.order → new.last ≡ Some item → HasScanned file new scan
+other-brings file before new (given.Entry at class changed) scan entry end table old goes same last =
+    absurd (entry at class changed refl)
+other-brings file before new (given.FrameEnd at class) scan entry end table old goes same last =
+    absurd (end at class refl)
+other-brings file before new (given.Table at class size) scan entry end table old goes same last =
+    absurd (table at class size refl)
+other-brings file before new (given.Plain at class instance node) scan entry end table old goes same last =
+    record-brings file before new at class instance node scan scan old goes same last refl refl refl
+other-brings file before new (given.FileEnd at class length seek) scan entry end table old goes same last =
+    end-brings file before new at class length seek scan scan old goes same last refl refl refl

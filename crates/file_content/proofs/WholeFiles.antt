@@ -1,13 +1,15 @@
 -- A reader on its way through the file that a slot was opened on.
 use Rattle.std.proofs.Common.{◌≡◌, ℕ, ◌+◌, Bool, true, false, List, Option, Some, None, refl, ap, subst, ◌∙◌}
 use Rattle.std.specs.Option.{option_map}
-use Rattle.frame_outside.specs.Shelf.{Outside, Reading, Passes, reading_at, passed}
+use Rattle.frame_outside.specs.Shelf.{Outside, Reading, Told, Passes, reading_at, passed}
 use Rattle.frame_outside.specs.SlotReader.{Draws}
 use Rattle.frame_outside.proofs.Slots.{reading_at-pass}
-use Rattle.frame_outside.proofs.Reading.{passes_more}
+use Rattle.frame_outside.proofs.Reading.{passes_none, passes_more}
 use Rattle.item_reader.specs.declared.item.Item.{Item}
 use Rattle.item_reader.specs.declared.item.Item.TheVariants as given
-use Rattle.item_reader.specs.Reader.{IsFileEnd, file_of}
+use Rattle.item_reader.specs.Reader.{Reader, IsFileEnd, file_of}
+use Rattle.file_content.specs.declared.scan.Scan.{Scan}
+use Rattle.file_content.specs.Scanned.{HasScanned, Scans}
 
 -- two draws of one slot are one
 pub draws_more : (first middle last : Outside) (slot same : ℕ) → Draws first middle slot → same ≡ slot
@@ -46,3 +48,25 @@ pub unclosed : (item : Item) (closed : Bool) → (closed ≡ true → IsFileEnd 
     → closed ≡ false
 unclosed item true ends none = absurd (none (ends refl))
 unclosed item false ends none = refl
+
+-- no byte was drawn
+pub draws_none : (o : Outside) (slot : ℕ) → Draws o o slot
+draws_none o slot = record { drawn = 0; passes = passes_none o slot }
+
+-- what is kept before any more items, and after them
+pub scans-init : (o : Outside) (slot : ℕ) (r : Reader) (scan : Scan) → Scans o slot r scan r scan
+unfolding Scans
+scans-init o slot r scan = λ file told scanned. scanned
+
+pub scans-told : (o : Outside) (slot : ℕ) (before r : Reader) (old scan : Scan) → Scans o slot before old r scan
+    → Told (file_of o slot) (λ file. HasScanned file before old → HasScanned file r scan)
+unfolding Scans
+scans-told o slot before r old scan scans = scans
+
+pub scans-more : (o : Outside) (slot : ℕ) (before r next : Reader) (old scan more : Scan)
+    → Scans o slot before old r scan
+    → Told (file_of o slot) (λ file. HasScanned file r scan → HasScanned file next more)
+    → Scans o slot before old next more
+unfolding Scans
+scans-more o slot before r next old scan more scans step =
+    λ file told scanned. step file told (scans file told scanned)

@@ -6,7 +6,8 @@ use Rattle.file_grammar.specs.Item.{Item, Before}
 use Rattle.file_grammar.specs.MayStand.{Begins}
 use Rattle.item_reader.specs.declared.item.Item.{Item as Given}
 use Rattle.item_reader.specs.declared.item.Item.TheVariants.{FileEnd}
-use Rattle.item_reader.specs.Reader.{Reader}
+use Rattle.frame_outside.specs.Shelf.{Outside, Told}
+use Rattle.item_reader.specs.Reader.{Reader, file_of}
 use Rattle.contents_table.specs.Built.{Built}
 use Rattle.contents_table.specs.Layouts.{layouts_of}
 use Rattle.file_content.specs.declared.scan.FoundTable.{FoundTable}
@@ -36,3 +37,8 @@ pub record HasItems (file : List ℕ) (order : Order) (before : Before) (last : 
 
 abbrev pub HasScanned : List ℕ → Reader → Scan → Type 0
 HasScanned file r scan = HasItems file r.order r.before r.last scan
+
+-- So it is after some more items of the file that a slot of this shelf was opened on, where it was so before them.
+unfoldable pub Scans : Outside → ℕ → Reader → Scan → Reader → Scan → Type 0
+Scans outside slot before old r scan =
+    Told (file_of outside slot) (λ file. HasScanned file before old → HasScanned file r scan)

@@ -1,24 +1,20 @@
 //! What is kept of the items of a file while they are read: the channels of its frames, and what was found of its
 //! contents table.
 
-ghost use Rattle.std.specs.Prelude.{◌≡◌, ℕ, List, None, Some, OnOk, IfOk};
+ghost use Rattle.std.specs.Prelude.{◌≡◌, ℕ, List, Option, None, Some, OnOk, IfOk};
 ghost use Rattle.scalar_types.specs.declared.Order.{Order};
-ghost use Rattle.layout_plan.specs.Layout.{layout_of};
-ghost use Rattle.file_grammar.specs.Record.{reading_by};
+ghost use Rattle.dictionary.specs.Dictionary.{IsDictionary};
 ghost use Rattle.item_reader.specs.Reader.{Reader, Goes};
-ghost use Rattle.contents_table.specs.Built.{Built, nothing_built};
+ghost use Rattle.contents_table.specs.Built.{nothing_built};
 ghost use Rattle.contents_table.specs.Layouts.{layouts_of};
 ghost use Rattle.file_content.specs.Stored.{StoredTable};
-ghost use Rattle.file_content.specs.Contents.{IsJudged, IsState, listed_in, listed_by, if_frames};
+ghost use Rattle.file_content.specs.Contents.{IsJudged, IsState, listed_in, if_frames};
 ghost use Rattle.file_content.specs.Scanned.{HasScanned, IsFound};
-ghost use Rattle.std.specs.Prelude.{option_and_then};
 
 use crate::state::TableState;
 use contents_table::{ChannelLayouts, TableBuilder, TableLayout, TableView};
-use dictionary::{Dictionary, Entry};
+use dictionary::Dictionary;
 use item_reader::{Item, ItemReader};
-use layout_plan::Plan;
-use scalar_types::Order;
 use std::alloc::{AllocError, Global};
 
 /// A contents table that was found: its place, and what it is found to be there, after all frames.
@@ -42,6 +38,7 @@ impl Scan {
         ensures layouts { result.layouts ≡ layouts_of dictionary.now }
         ensures channels { result.channels ≡ nothing_built }
         ensures table { result.table ≡ None }
+        ensures sound { IsDictionary dictionary.now }
     {
         Scan {
             layouts: ChannelLayouts::of(dictionary),
@@ -59,17 +56,21 @@ impl Scan {
             → HasScanned file reader.now self.new) }
     {
         match item {
-            Item::Entry { changed: true, .. } => self.layouts = ChannelLayouts::of(reader.dictionary()),
+            Item::Entry { changed: true, .. } => {
+                self.layouts = ChannelLayouts::of(reader.dictionary());
+                Ok(())
+            }
+            Item::Entry { .. } => Ok(()),
             Item::FrameEnd { .. } => {
-                self.channels.add_segment(reader.segment(), reader.plans(), &self.layouts)?;
+                self.channels.add_segment(reader.segment(), reader.plans(), &self.layouts)
             }
             Item::Table { at, class, .. } => {
                 let state = self.judge(alloc, reader, class)?;
                 self.table = Some(FoundTable { at, state });
+                Ok(())
             }
-            Item::Entry { .. } | Item::Plain { .. } | Item::FileEnd { .. } => {}
+            _ => Ok(()),
         }
-        Ok(())
     }
 
     /// The state of the table in a file of so many bytes, whose end leads back by so many.
