@@ -2,6 +2,7 @@ mod Faults
 mod Finding
 mod Items
 mod Joined
+mod Lines
 mod OnePlace
 mod OneReply
 mod OneVerdict
