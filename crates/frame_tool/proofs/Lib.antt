@@ -1,3 +1,4 @@
+mod Checking
 mod Faults
 mod Finding
 mod Items
@@ -11,4 +12,3 @@ mod Places
 mod Replies
 mod Structures
 mod Walking
-pub mod Checking

@@ -1,5 +1,5 @@
 -- The reply that is due to the words is that of the command that they are.
-use Rattle.std.proofs.Common.{◌≡◌, List, ℕ, Option, Some, sym, ap, subst, ◌∙◌}
+use Rattle.std.proofs.Common.{◌≡◌, Option, Some, sym, ap, subst, ◌∙◌}
 use Rattle.frame_outside.specs.Shelf.{Files}
 use Rattle.frame_tool.specs.declared.command.Command.{Command}
 use Rattle.frame_tool.specs.Words.{Form, form_of}

@@ -8,13 +8,15 @@ use Rattle.frame_tool.proofs.dispatch.run_report.Goals as goal
 
 pub returns-in-Ok-clause-answer : goal.returns-in-Ok-clause-answer
 returns-in-Ok-clause-answer g c = λ files told reply due.
-    let same = due_is_found IsFinding (finding_reply c.args.report) no_two_findings (files c.args.file.now) c.in-Ok.finding reply
+    let reply_of = finding_reply c.args.report in
+    let same = due_is_found IsFinding reply_of no_two_findings (files c.args.file.now) c.in-Ok.finding reply
     (c.in-Ok.ensures.finding files told) (λ none. no_error _ _ (c.in-Ok.ensures.missing files told none)) due in
     subst (λ (r : Reply). IsAnswer c.answer_finding.result r.outcome) (sym same) c.answer_finding.ensures.answer
 
 pub returns-in-Ok-clause-text : goal.returns-in-Ok-clause-text
 returns-in-Ok-clause-text g c = λ files told reply due.
-    let same = due_is_found IsFinding (finding_reply c.args.report) no_two_findings (files c.args.file.now) c.in-Ok.finding reply
+    let reply_of = finding_reply c.args.report in
+    let same = due_is_found IsFinding reply_of no_two_findings (files c.args.file.now) c.in-Ok.finding reply
     (c.in-Ok.ensures.finding files told) (λ none. no_error _ _ (c.in-Ok.ensures.missing files told none)) due in
     subst (λ (r : Reply). Prints c.answer_finding.result r.text (g.O.Sink.output c.args.out.now)
     (g.O.Sink.output c.answer_finding.new.out)) (sym same) c.answer_finding.ensures.text
@@ -33,7 +35,8 @@ returns-in-Err-NoMemory-clause-misses g c =
 
 pub returns-in-Ok-clause-among : goal.returns-in-Ok-clause-among
 returns-in-Ok-clause-among g c =
-    among_due c.answer_finding.result _ _ c.answer_finding.ensures.answer (finding_among c.args.report c.in-Ok.finding c.args.file.now)
+    among_due c.answer_finding.result _ _ c.answer_finding.ensures.answer
+    (finding_among c.args.report c.in-Ok.finding c.args.file.now)
 
 pub returns-in-Ok-clause-sink : goal.returns-in-Ok-clause-sink
 returns-in-Ok-clause-sink g c = prints_faults c.answer_finding.result _ _ _ c.answer_finding.ensures.text
