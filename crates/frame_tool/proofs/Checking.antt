@@ -1,40 +1,10 @@
--- How a check goes on through a file, and what it finds.
-use Rattle.std.proofs.Common.{◌≡◌, ℕ, ◌+◌, Bool, true, false, List, [], ◌∷◌, ◌++◌, Option, Some, None}
-use Rattle.std.proofs.Common.{refl, ap, subst, ◌∙◌}
+-- The file that a check reads.
+use Rattle.std.proofs.Common.{◌≡◌, ℕ, List, [], ◌∷◌, ◌++◌, Option, Some, ap, ◌∙◌}
 use Rattle.std.specs.Option.{option_map}
-use Rattle.frame_outside.specs.Shelf.{Outside, Reading, Source, Files, Opens, Passes, reading_at, passed}
+use Rattle.frame_outside.specs.Shelf.{Outside, Reading, Source, Files, Opens, reading_at}
 use Rattle.frame_outside.specs.Shelf.{beginning, beginning_of}
-use Rattle.frame_outside.specs.SlotReader.{Draws}
-use Rattle.frame_outside.proofs.Slots.{reading_at-pass, reading_at-given}
-use Rattle.frame_outside.proofs.Reading.{passes_more}
-use Rattle.item_reader.specs.declared.item.Item.{Item}
-use Rattle.item_reader.specs.declared.item.Item.TheVariants as given
-use Rattle.item_reader.specs.Reader.{Reader, HasEnded, IsFileEnd, file_of}
-use Rattle.frame_tool.specs.declared.judgement.Finding.TheVariants.{Accepted}
-use Rattle.frame_tool.specs.Check.{IsFinding}
-
--- two draws of one slot are one
-pub draws_more : (first middle last : Outside) (slot same : ℕ) → Draws first middle slot → same ≡ slot
-    → Draws middle last same → Draws first last slot
-draws_more first middle last slot same p is q =
-    let passes : Passes middle last slot q.drawn = subst (λ (n : ℕ). Passes middle last n q.drawn) is q.passes in
-    record {
-      drawn = p.drawn + q.drawn;
-      passes = passes_more first middle last slot p.drawn q.drawn p.passes passes;
-    }
-
-opened-passed : (n : ℕ) (told : Option Reading)
-    → option_map (λ reading. reading.opened) (option_map (passed n) told)
-    ≡ option_map (λ reading. reading.opened) told
-opened-passed n None = refl
-opened-passed n (Some reading) = refl
-
--- a slot stays that of the same file
-pub file_of-drawn : (old new : Outside) (slot : ℕ) → Draws old new slot → file_of new slot ≡ file_of old slot
-file_of-drawn old new slot draws =
-    ap (λ slots. option_map (λ reading. reading.opened) (reading_at slots slot)) draws.passes.slots
-    ∙ ap (option_map (λ reading. reading.opened)) (reading_at-pass old.slots slot draws.drawn)
-    ∙ opened-passed draws.drawn (reading_at old.slots slot)
+use Rattle.frame_outside.proofs.Slots.{reading_at-given}
+use Rattle.item_reader.specs.Reader.{file_of}
 
 -- a slot that was opened is that of the file of the name
 pub file_of-opened : (old new : Outside) (name : List ℕ) (slot : ℕ) → Opens old new name slot
@@ -47,23 +17,3 @@ file_of-opened old new name slot opens files file told held =
     ∙ ap opened (reading_at-given old.slots (beginning_of old.files name))
     ∙ ap (λ files. opened (beginning_of files name)) told
     ∙ ap (λ held. opened (option_map beginning held)) held
-
--- an item that is no end of the file, as code finds it
-pub goes_on : (item : Item) → ((at class length seek : ℕ) → item ≡ given.FileEnd at class length seek → ⊥)
-    → IsFileEnd item → ⊥
-goes_on (given.Entry at class changed) other end = absurd end
-goes_on (given.Plain at class instance node) other end = absurd end
-goes_on (given.FrameEnd at class) other end = absurd end
-goes_on (given.Table at class length) other end = absurd end
-goes_on (given.FileEnd at class length seek) other end = other at class length seek refl
-
--- after such an item the end of the file does not stand
-pub unclosed : (item : Item) (closed : Bool) → (closed ≡ true → IsFileEnd item) → (IsFileEnd item → ⊥)
-    → closed ≡ false
-unclosed item true ends none = absurd (none (ends refl))
-unclosed item false ends none = refl
-
--- what was found of a file whose end was given
-pub accepted : (file : List ℕ) (reader : Reader) → HasEnded file reader
-    → IsFinding file (Accepted reader.order reader.before.frames reader.before.records reader.before.place)
-accepted file reader (items, ended) = (items, reader.before, ended, refl, refl, ended.ends)

@@ -28,9 +28,11 @@ use Rattle.frame_tool.proofs.Faults.{IsLeast, cut_head, cut_body, small_length, 
 use Rattle.frame_tool.proofs.Items.{WalksTo, walks_to}
 
 pub accepted_sound : AcceptedFilesAreSound
-accepted_sound file order frames records bytes (items, last, well, fs, rs, bs) =
-    let walk = walks_to file order items last well.begins in
-    let ends : last.place ≡ length file = well.ends in
+accepted_sound file contents are =
+    let order = contents.order in
+    let last = are.last in
+    let walk = walks_to file order are.items last are.well_formed.begins in
+    let ends : last.place ≡ length file = are.well_formed.ends in
     let none : drop last.place file ≡ [] =
     nil_from_length (drop last.place file) (omega (arith, length-drop last.place file, ends)) in
     let P : List ℕ → Type 0 = λ rest. IsWalked file order walk.structures rest in (

@@ -1,7 +1,9 @@
+mod Checking
 mod Faults
 mod Finding
 mod Items
 mod Joined
+mod Lines
 mod OnePlace
 mod OneReply
 mod OneVerdict
@@ -10,4 +12,3 @@ mod Places
 mod Replies
 mod Structures
 mod Walking
-pub mod Checking

@@ -5,14 +5,17 @@ use Rattle.file_grammar.specs.declared.fault.Fault.{Fault}
 use Rattle.file_grammar.specs.Fault.{IsFirstFault}
 use Rattle.file_grammar.specs.Laws.{WellFormed}
 use Rattle.file_grammar.proofs.OneAnswer.{each_judged, not_both, faults_unique}
-use Rattle.file_grammar.proofs.Prefixes.{items_unique}
+use Rattle.file_content.specs.declared.contents.Contents.{Contents}
+use Rattle.file_content.specs.Contents.{AreContents}
+use Rattle.file_content.proofs.OneContent.{no-two-contents, has-contents}
 use Rattle.frame_tool.specs.declared.outcome.Outcome.TheVariants.{Usage, Device}
 use Rattle.frame_tool.specs.declared.judgement.Finding.{Finding}
 use Rattle.frame_tool.specs.declared.judgement.Finding.TheVariants.{Accepted, Refused}
+use Rattle.frame_tool.specs.declared.judgement.Report.TheVariants.{Summary, Channels}
 use Rattle.frame_tool.specs.Check.{IsFinding}
-use Rattle.frame_tool.specs.Due.{Reply, reply_with, walk_reply, check_reply, IsFileDue, IsCommandDue}
+use Rattle.frame_tool.specs.Due.{Reply, reply_with, walk_reply, finding_reply, IsFileDue, IsCommandDue}
 use Rattle.frame_tool.specs.Due.{EachRunHasADueReply, NoRunHasTwoDueReplies}
-use Rattle.frame_tool.specs.Words.{Form, WalkFile, CheckFile, command_of}
+use Rattle.frame_tool.specs.Words.{Form, WalkFile, CheckFile, ListFile, command_of}
 use Rattle.frame_tool.proofs.OneVerdict.{a_verdict, no_two_verdicts}
 
 -- of each file something is found
@@ -26,29 +29,24 @@ NoneHasTwo {A} is = (file : List ℕ) (a b : A) → is file a → is file b → 
 -- a file has one finding
 finding_by : (file : List ℕ) → WellFormed file ⊎ ((fault : Fault) × IsFirstFault file fault) → (finding : Finding)
     × IsFinding file finding
-finding_by file (inl (order, items, last, is)) = (Accepted order _ _ _, (items, last, is, refl, refl, refl))
+finding_by file (inl (order, items, last, is)) =
+    let some = has-contents file order items last is in
+    (Accepted some.0, some.1)
 finding_by file (inr (fault, is)) = (Refused fault, is)
 
 a_finding : EachHas IsFinding
 a_finding file = finding_by file (each_judged file)
 
+well_formed : (file : List ℕ) (contents : Contents) → AreContents file contents → WellFormed file
+well_formed file contents are = (contents.order, are.items, are.last, are.well_formed)
+
 pub no_two_findings : NoneHasTwo IsFinding
-no_two_findings file (Accepted order frames records bytes) (Accepted o f r b) (items, last, is, fs, rs, bs) (
-  others,
-  end,
-  also,
-  gs,
-  ss,
-  cs,
-) =
-    let same = items_unique file order o items others last end is also in
-    let e : order ≡ o = same.0 in
-    let l : last ≡ end = same.2 in
-    cc
-no_two_findings file (Accepted order frames records bytes) (Refused fault) (items, last, is, fs, rs, bs) also =
-    absurd (not_both file fault (order, items, last, is) also)
-no_two_findings file (Refused fault) (Accepted order frames records bytes) is (items, last, also, fs, rs, bs) =
-    absurd (not_both file fault (order, items, last, also) is)
+no_two_findings file (Accepted contents) (Accepted other) are also =
+    ap Accepted (no-two-contents file contents other are also)
+no_two_findings file (Accepted contents) (Refused fault) are also =
+    absurd (not_both file fault (well_formed file contents are) also)
+no_two_findings file (Refused fault) (Accepted contents) is are =
+    absurd (not_both file fault (well_formed file contents are) is)
 no_two_findings file (Refused fault) (Refused other) is also = ap Refused (faults_unique file fault other is also)
 
 file_due : {A : Type 0} (is : List ℕ → A → Type 0) (reply_of : A → Reply) → EachHas is → (held : Option (List ℕ))
@@ -68,7 +66,8 @@ file_dues is reply_of alone (Some file) first second (a, holds, left) (b, also, 
 command_due : (files : Files) (command : Option Form) → (reply : Reply) × IsCommandDue files command reply
 command_due files None = (reply_with Usage, refl)
 command_due files (Some (WalkFile file)) = file_due _ walk_reply a_verdict (files file)
-command_due files (Some (CheckFile file)) = file_due _ check_reply a_finding (files file)
+command_due files (Some (CheckFile file)) = file_due _ (finding_reply Summary) a_finding (files file)
+command_due files (Some (ListFile file)) = file_due _ (finding_reply Channels) a_finding (files file)
 
 command_dues : (files : Files) (command : Option Form) (first second : Reply) → IsCommandDue files command first
     → IsCommandDue files command second → first ≡ second
@@ -76,7 +75,9 @@ command_dues files None first second left right = left ∙ sym right
 command_dues files (Some (WalkFile file)) first second left right =
     file_dues _ walk_reply no_two_verdicts (files file) first second left right
 command_dues files (Some (CheckFile file)) first second left right =
-    file_dues _ check_reply no_two_findings (files file) first second left right
+    file_dues _ (finding_reply Summary) no_two_findings (files file) first second left right
+command_dues files (Some (ListFile file)) first second left right =
+    file_dues _ (finding_reply Channels) no_two_findings (files file) first second left right
 
 pub a_due_reply : EachRunHasADueReply
 a_due_reply files words = command_due files (command_of words)

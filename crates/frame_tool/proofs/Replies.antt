@@ -10,9 +10,11 @@ use Rattle.frame_tool.specs.declared.verdict.Verdict.{Verdict}
 use Rattle.frame_tool.specs.declared.verdict.Verdict.TheVariants.{Sound, Wrong}
 use Rattle.frame_tool.specs.declared.judgement.Finding.{Finding}
 use Rattle.frame_tool.specs.declared.judgement.Finding.TheVariants.{Accepted, Refused}
-use Rattle.frame_tool.specs.Words.{Form, WalkFile, CheckFile}
+use Rattle.frame_tool.specs.declared.judgement.Report.{Report}
+use Rattle.frame_tool.specs.declared.judgement.Report.TheVariants.{Summary, Channels}
+use Rattle.frame_tool.specs.Words.{Form, WalkFile}
 use Rattle.frame_tool.specs.Due.{Reply, IsFileDue, IsAnswer, IsAmong, Prints, AppendsFront, reply_with, walk_reply}
-use Rattle.frame_tool.specs.Due.{check_reply}
+use Rattle.frame_tool.specs.Due.{finding_reply, form_asking}
 use Rattle.frame_tool.specs.WalkSteps.{ReadsOneFile}
 use Rattle.frame_tool.proofs.OneReply.{NoneHasTwo, file_dues}
 
@@ -56,10 +58,12 @@ pub walk_among : (verdict : Verdict) (name : List ℕ)
 walk_among (Sound order count) name = tt
 walk_among (Wrong at reason) name = (refl, refl)
 
-pub check_among : (finding : Finding) (name : List ℕ)
-    → IsAmong (check_reply finding).outcome (Some (CheckFile name))
-check_among (Accepted order frames records bytes) name = tt
-check_among (Refused fault) name = refl
+pub finding_among : (report : Report) (finding : Finding) (name : List ℕ)
+    → IsAmong (finding_reply report finding).outcome (Some (form_asking report name))
+finding_among Summary (Accepted contents) name = tt
+finding_among Channels (Accepted contents) name = tt
+finding_among Summary (Refused fault) name = refl
+finding_among Channels (Refused fault) name = refl
 
 due_by : {A : Type 0} (is : List ℕ → A → Type 0) (reply_of : A → Reply) (held : Option (List ℕ)) (a : A)
     → Told held (λ file. is file a) → (held ≡ None → ⊥) → IsFileDue is reply_of held (reply_of a)
