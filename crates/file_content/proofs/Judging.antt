@@ -64,8 +64,11 @@ unspelled-listed order frames held class body e fields is unspelled =
     by None found true = refl
     by None found false = refl
     by (Some r) found fit =
-        absurd (unspelled (r.values, r.tail,
-        reading-found order body fields r (layout_of-sound e.elements fields (layout-of held class e fields is)) found))
+        absurd (unspelled (
+          r.values,
+          r.tail,
+          reading-found order body fields r (layout_of-sound e.elements fields (layout-of held class e fields is)) found,
+        ))
 
 -- a table that reads
 pub read-listed : (order : Order) (frames : ℕ) (held : List Entry) (class : ℕ) (body : List ℕ) (e : Entry)

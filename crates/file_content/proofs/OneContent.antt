@@ -159,22 +159,23 @@ pub has-contents : EachWellFormedFileHasContents
 has-contents file order items last well =
     let built = built_of order (frames_in order items) in
     let some = some-state order (length file) last.frames built (table_in order items)
-    (seek_or_none (seek_in order items)) in
-    (record {
-      order = order;
-      frames = last.frames;
-      records = last.records;
-      bytes = length file;
-      table = some.0;
-      channels = built;
-    },
-    record {
-      items = items;
-      last = last;
-      well_formed = well;
-      frames_are = refl;
-      records_are = refl;
-      bytes_are = refl;
-      channels_are = refl;
-      table_is = some.1;
-    })
+    (seek_or_none (seek_in order items)) in (
+      record {
+        order = order;
+        frames = last.frames;
+        records = last.records;
+        bytes = length file;
+        table = some.0;
+        channels = built;
+      },
+      record {
+        items = items;
+        last = last;
+        well_formed = well;
+        frames_are = refl;
+        records_are = refl;
+        bytes_are = refl;
+        channels_are = refl;
+        table_is = some.1;
+      },
+    )

@@ -39,7 +39,11 @@ pub struct Contents {
 /// # Errors
 ///
 /// A `Fault` is the file's first. `Device` comes where the shelf could not do a call.
-pub fn read_contents<S: Shelf>(alloc: Global, shelf: &mut S, slot: u32) -> Result<Contents, ReadError>
+pub fn read_contents<S: Shelf>(
+    alloc: Global,
+    shelf: &mut S,
+    slot: u32,
+) -> Result<Contents, ReadError>
     requires source { IsSource (S.outside shelf.old).slots slot }
     requires beginning { Told (reading_at (S.outside shelf.old).slots slot) (λ reading. reading.at ≡ 0) }
     ensures contents { IfOk result

@@ -62,7 +62,8 @@ impl Scan {
             }
             Item::Entry { .. } => Ok(()),
             Item::FrameEnd { .. } => {
-                self.channels.add_segment(reader.segment(), reader.plans(), &self.layouts)
+                self.channels
+                    .add_segment(reader.segment(), reader.plans(), &self.layouts)
             }
             Item::Table { at, class, .. } => {
                 let state = self.judge(alloc, reader, class)?;
