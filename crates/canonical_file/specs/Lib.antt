@@ -1,0 +1,9 @@
+pub mod Ranges
+pub mod Bytes
+pub mod Ordered
+pub mod Records
+pub mod Written
+pub mod Contents
+pub mod Splices
+pub mod Renumbered
+pub mod FrameLaws
