@@ -1,0 +1,6 @@
+pub mod Printing
+pub mod PrintedDictionaries
+pub mod LabelFits
+pub mod LabelRanges
+pub mod LabelsOnce
+pub mod DistinctSums
