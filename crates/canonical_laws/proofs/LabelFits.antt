@@ -223,11 +223,13 @@ moved : (before : List ℕ) (fs : List Field) (vs ws : List Value) → AreSound 
     → (numbers : List ℕ) → numbers ≡ before ++ map number_of vs → AllStandFor numbers fs vs ws
     → AllZip (FitsBy (before ++ map number_of ws)) fs ws
 moved before [] [] [] sound sums numbers is all = tt
-moved before (f ∷ fs) (v ∷ vs) (w ∷ ws) sound sums numbers is all =
-    (field-moved before (map number_of (v ∷ vs)) (map number_of (w ∷ ws)) f.form f.counts w sound.0
-    (subst (λ ns. FitsBy ns f w) is all.0.fits), by f.is_sum refl (λ same. on same
-    (moved (before ++ number_of w ∷ []) fs vs ws (subst (λ n. AreSound n fs) (sym size) sound.1) sums.1 numbers
-    (split same) all.1)))
+moved before (f ∷ fs) (v ∷ vs) (w ∷ ws) sound sums numbers is all = (
+  field-moved before (map number_of (v ∷ vs)) (map number_of (w ∷ ws)) f.form f.counts w sound.0
+      (subst (λ ns. FitsBy ns f w) is all.0.fits),
+  by f.is_sum refl (λ same. on same
+      (moved (before ++ number_of w ∷ []) fs vs ws (subst (λ n. AreSound n fs) (sym size) sound.1) sums.1 numbers
+      (split same) all.1)),
+)
   where
     last : (gs : List Field) (xs ys : List Value) → gs ≡ [] → AllStandFor numbers gs xs ys
         → AllZip (FitsBy (before ++ map number_of (w ∷ ws))) gs ys

@@ -4,3 +4,6 @@ pub mod LabelFits
 pub mod LabelRanges
 pub mod LabelsOnce
 pub mod DistinctSums
+pub mod RootsInOrder
+pub mod SourceEntries
+pub mod Steps
