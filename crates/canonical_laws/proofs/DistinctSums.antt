@@ -62,7 +62,7 @@ below-without n (x ∷ xs) all = by (nat_eq n x) refl (below-without n xs all.1)
         below : (m : ℕ) → (n ≡ m → ⊥) → m < suc n → m < n
         below m apart less = omega (arith, apart, less)
 
-range-push : (a n : ℕ) → range_with_len a (suc n) ≡ range_with_len a n ++ (a + n) ∷ []
+pub range-push : (a n : ℕ) → range_with_len a (suc n) ≡ range_with_len a n ++ (a + n) ∷ []
 range-push a zero = ap (λ m. m ∷ []) (omega arith)
 range-push a (suc n) =
     ap (λ (xs : List ℕ). a ∷ xs) (range-push (a + 1) n ∙ ap (λ m. range_with_len (a + 1) n ++ m ∷ []) (omega arith))

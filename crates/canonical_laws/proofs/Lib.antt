@@ -7,3 +7,5 @@ pub mod DistinctSums
 pub mod RootsInOrder
 pub mod SourceEntries
 pub mod Steps
+pub mod SourceRecords
+pub mod SourceFrames

@@ -47,10 +47,10 @@ passing-none p i [] all = refl
 passing-none p i (x ∷ xs) all = cond-false _ _ _ all.0 ∙ passing-none p (i + 1) xs all.1
 
 -- the rows of a name
-abbrev is_named : List ℕ → Row → Bool
+abbrev pub is_named : List ℕ → Row → Bool
 is_named name r = bytes_eq r.label.entry.name name
 
-abbrev named_at : List ℕ → List Row → ℕ → Bool
+abbrev pub named_at : List ℕ → List Row → ℕ → Bool
 named_at name rows n = is_named name (slice_index_or rows n no_row)
 
 abbrev pub numbers_from : List ℕ → ℕ → List Row → List ℕ
@@ -68,10 +68,10 @@ numbers-passing name f s i (n ∷ ns) = by (named_at name f.rows n) (numbers-pas
     by false later = later
 
 -- each number of the list has the name, and each row of the name its number there
-abbrev AtFrom : List ℕ → List Row → ℕ → ℕ → Type 0
+abbrev pub AtFrom : List ℕ → List Row → ℕ → ℕ → Type 0
 AtFrom name rows i n = (k : ℕ) × (n ≡ i + k) × (named_at name rows k ≡ true) × (k < length rows)
 
-numbers-sound : (name : List ℕ) (i : ℕ) (rows : List Row)
+pub numbers-sound : (name : List ℕ) (i : ℕ) (rows : List Row)
     → AllByRecursion (AtFrom name rows i) (numbers_from name i rows)
 numbers-sound name i [] = tt
 numbers-sound name i (r ∷ rs) =
@@ -87,7 +87,7 @@ numbers-sound name i (r ∷ rs) =
     by true is later = ((0, sym (add-zero i), is, omega arith), later)
     by false is later = later
 
-numbers-complete : (name : List ℕ) (i : ℕ) (rows : List Row) (k : ℕ) → k < length rows → named_at name rows k ≡ true
+pub numbers-complete : (name : List ℕ) (i : ℕ) (rows : List Row) (k : ℕ) → k < length rows → named_at name rows k ≡ true
     → has (numbers_from name i rows) (i + k) ≡ true
 numbers-complete name i [] k within is = absurd (omega arith)
 numbers-complete name i (r ∷ rs) zero within is =
