@@ -9,3 +9,4 @@ pub mod SourceEntries
 pub mod Steps
 pub mod SourceRecords
 pub mod SourceFrames
+pub mod SourceOrders
