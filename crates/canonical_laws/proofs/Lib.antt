@@ -1,0 +1,10 @@
+pub mod Holding
+pub mod WrittenEntries
+pub mod Instances
+pub mod LinksWithin
+pub mod WrittenRecords
+pub mod RowsBack
+pub mod AgreeingEntries
+pub mod RecordsInTurn
+pub mod RowsFollow
+pub mod PlainFields
