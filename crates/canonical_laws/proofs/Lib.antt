@@ -10,3 +10,13 @@ pub mod Steps
 pub mod SourceRecords
 pub mod SourceFrames
 pub mod SourceOrders
+pub mod Holding
+pub mod WrittenEntries
+pub mod Instances
+pub mod LinksWithin
+pub mod WrittenRecords
+pub mod RowsBack
+pub mod AgreeingEntries
+pub mod RecordsInTurn
+pub mod RowsFollow
+pub mod PlainFields
