@@ -20,3 +20,5 @@ pub mod AgreeingEntries
 pub mod RecordsInTurn
 pub mod RowsFollow
 pub mod PlainFields
+pub mod RootsByName
+pub mod SourceStored
