@@ -22,3 +22,6 @@ pub mod RowsFollow
 pub mod PlainFields
 pub mod RootsByName
 pub mod SourceStored
+pub mod SourceItems
+pub mod PrintedClosings
+pub mod SourceClosings

@@ -65,7 +65,7 @@ record-stays order held next s stays is = record {
 }
 
 -- an entry that is held of a class has this class
-held-class : (held : List Entry) (class : ℕ) (e : Entry) → entry_of held class ≡ Some e → class ≡ e.class
+pub held-class : (held : List Entry) (class : ℕ) (e : Entry) → entry_of held class ≡ Some e → class ≡ e.class
 held-class [] class e is = cc
 held-class (x ∷ xs) class e is = by (class == x.class) refl is (held-class xs class e)
   where
@@ -74,7 +74,7 @@ held-class (x ∷ xs) class e is = by (class == x.class) refl is (held-class xs 
     by true same is later = eqb-true class x.class same ∙ ap (λ (y : Entry). y.class) (same_Some x e is)
     by false other is later = later is
 
-held-kind : (held : List Entry) (class : ℕ) (e : Entry) → AreSources held → entry_of held class ≡ Some e
+pub held-kind : (held : List Entry) (class : ℕ) (e : Entry) → AreSources held → entry_of held class ≡ Some e
     → kind_of held class ≡ kind_named e.name
 held-kind held class e sources is =
     let same = held-class held class e is in
