@@ -8,3 +8,8 @@ pub mod AgreeingEntries
 pub mod RecordsInTurn
 pub mod RowsFollow
 pub mod PlainFields
+pub mod FileEndTold
+pub mod FrameEnds
+pub mod RootsByName
+pub mod FrameRecords
+pub mod WholeFrames

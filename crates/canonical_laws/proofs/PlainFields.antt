@@ -40,7 +40,7 @@ plain-made : (named : List ℕ → Option Count) (last : Bool) (e : Element) →
 plain-made named last e is = by (last && is_check_sum e) e.ty is
   where
     go : (sum : Bool) (form : Form) (dims : List Dim) → has_no_dims dims ≡ true
-        → option_map (λ counts. record { form = form; counts = counts; is_sum = sum }) (counts_of named dims)
+        → option_map {U = Field} (λ counts. record { form = form; counts = counts; is_sum = sum }) (counts_of named dims)
         ≡ Some (record { form = form; counts = []; is_sum = sum })
     go sum form [] none = refl
     go sum form (d ∷ ds) none = absurd (false≢true none)
