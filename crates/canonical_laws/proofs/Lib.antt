@@ -13,3 +13,5 @@ pub mod FrameEnds
 pub mod RootsByName
 pub mod FrameRecords
 pub mod WholeFrames
+pub mod Heads
+pub mod FileEnds
