@@ -15,3 +15,6 @@ pub mod FrameRecords
 pub mod WholeFrames
 pub mod Heads
 pub mod FileEnds
+pub mod FrameEntries
+pub mod TableParts
+pub mod ClosingParts
