@@ -179,7 +179,7 @@ end-entry dictionary w b e table past =
     ap (λ es. new_entry es e) past.tells.entries ∙ new-is (past_closing w b table).dictionary e past.class
 
 -- the file ends behind it
-file-ends : (dictionary : List Entry) (file : List ℕ) (w : Written) (b : Before) (e : Entry) (table : Option Entry)
+pub file-ends : (dictionary : List Entry) (file : List ℕ) (w : Written) (b : Before) (e : Entry) (table : Option Entry)
     → Closes dictionary file w b e table → length file ≡ told_bytes w e table
 file-ends dictionary file w b e table may =
     let c : Closing = record { end = e; table = table } in

@@ -157,6 +157,17 @@ record-here dictionary file b e n bytes seek may =
     (end-writable dictionary e n bytes seek may.writable may.numbers) may.limit
     (holds-right file b.place entry (end_bytes e n bytes seek) may.holds)
 
+-- the file ends where it tells
+pub end-place : (dictionary : List Entry) (file : List ℕ) (b : Before) (e : Entry) (n bytes seek : ℕ)
+    → EndsFile dictionary file b e n bytes seek → bytes ≡ (after_file b e n bytes seek).place
+end-place dictionary file b e n bytes seek may =
+    omega (
+      arith,
+      may.ends,
+      record-size (past_entry None b e).place (file_end e n bytes seek),
+      end-size dictionary e n bytes seek may.writable,
+    )
+
 end-may : (dictionary : List Entry) (file : List ℕ) (b : Before) (e : Entry) (n bytes seek : ℕ)
     → EndsFile dictionary file b e n bytes seek
     → FileEndMayStand Little (past_entry None b e) (end_structure b e n bytes seek)
@@ -168,8 +179,7 @@ end-may dictionary file b e n bytes seek may =
     let held : entry_of next.dictionary e.class ≡ Some e = entry_of-own b.dictionary e may.class in
     let told = end-told e.elements n bytes seek (closes-parts e.elements w.closes) in
     let same = values dictionary e n bytes seek w in
-    let size : bytes ≡ end_of (end_structure b e n bytes seek) =
-    omega (arith, may.ends, record-size next.place r, end-size dictionary e n bytes seek w) in
+    let size = end-place dictionary file b e n bytes seek may in
     record {
       reading = reading_back r writable;
       reads = record-reads next.dictionary next.place r writable held;

@@ -18,3 +18,4 @@ pub mod FileEnds
 pub mod FrameEntries
 pub mod TableParts
 pub mod ClosingParts
+pub mod WholeFiles
