@@ -18,4 +18,6 @@ pub mod FileEnds
 pub mod FrameEntries
 pub mod TableParts
 pub mod ClosingParts
+pub mod ClosingsBack
 pub mod WholeFiles
+pub mod TellingApart
