@@ -1,12 +1,12 @@
 -- The closing part of a canonical file: FrTOC's entry and record where the closing has one, then those of FrEndOfFile.
-use Rattle.std.proofs.Common.{◌≡◌, ℕ, zero, suc, ◌+◌, ◌^◌, ◌<◌, ◌≤◌, Bool, true, false, Option, Some, None, List, [], ◌∷◌}
-use Rattle.std.proofs.Common.{◌++◌, length, refl, sym, ap, ◌∙◌, subst, arith, append-nil, length-append}
+use Rattle.std.proofs.Common.{◌≡◌, ℕ, zero, suc, ◌+◌, ◌≤◌, Bool, false, Option, Some, None, List, [], ◌∷◌}
+use Rattle.std.proofs.Common.{◌++◌, length, refl, sym, ap, ◌∙◌, subst, arith, length-append}
 use Rattle.std.specs.Prelude.{◌==◌, nat_le, IfSome}
-use Rattle.std.proofs.lemmas.Bool.{false≢true, cond-false, leb-true, ne_eqb}
+use Rattle.std.proofs.lemmas.Bool.{cond-false, leb-true, ne_eqb}
 use Rattle.std.proofs.lemmas.Option.{same_Some}
 use Rattle.scalar_types.specs.declared.Order.TheVariants.{Little}
 use Rattle.dictionary.specs.declared.entries.Entry.{Entry}
-use Rattle.dictionary.specs.Dictionary.{entry_of, class_named, IsDictionary}
+use Rattle.dictionary.specs.Dictionary.{entry_of, IsDictionary}
 use Rattle.file_grammar.specs.declared.kind.Kind.{Kind}
 use Rattle.file_grammar.specs.declared.kind.Kind.TheVariants.{FrTOC, FrEndOfFile}
 use Rattle.file_grammar.specs.Structure.{Structure, record_limit, file_limit}
@@ -19,16 +19,15 @@ use Rattle.canonical_file.specs.Bytes.{entry_bytes}
 use Rattle.canonical_file.specs.Records.{Record, record_bytes, unless_held, new_entry, added_by, with_entry, piece_bytes}
 use Rattle.canonical_file.specs.Written.{Written, table_record, table_piece, after_table, end_bytes, end_size, way_back}
 use Rattle.canonical_file.specs.Written.{end_part, closing_part}
-use Rattle.canonical_laws.specs.Writable.{IsWritableFileEnd, IsWritableTable, IsWritableClosing}
-use Rattle.canonical_laws.proofs.Holding.{Holds, holds-left, holds-right, holds-at, holds-within}
+use Rattle.canonical_laws.specs.Writable.{IsWritableFileEnd, IsWritableTable}
+use Rattle.canonical_laws.proofs.Holding.{Holds, holds-left, holds-right, holds-at}
 use Rattle.canonical_laws.proofs.WrittenEntries.{head_structure}
-use Rattle.canonical_laws.proofs.WrittenRecords.{record-size, past_entry}
-use Rattle.canonical_laws.proofs.AgreeingEntries.{IsIn, AreIn, no_name, added-in}
+use Rattle.canonical_laws.proofs.AgreeingEntries.{AreIn, no_name, added-in}
 use Rattle.canonical_laws.proofs.RecordsInTurn.{stand-append}
 use Rattle.canonical_laws.proofs.FrameEnds.{frames_from, frames-append}
 use Rattle.canonical_laws.proofs.WholeFrames.{IsBetween}
 use Rattle.canonical_laws.proofs.Heads.{Tells}
-use Rattle.canonical_laws.proofs.FileEnds.{AreEndNumbers, EndsFile, end_items, after_file, file_end, end-size, end-stands}
+use Rattle.canonical_laws.proofs.FileEnds.{AreEndNumbers, EndsFile, end_items, after_file, end-size, end-stands}
 use Rattle.canonical_laws.proofs.FileEnds.{end-frames}
 use Rattle.canonical_laws.proofs.FrameEntries.{AreNeeded, few-needed, not-needed}
 use Rattle.canonical_laws.proofs.TableParts.{table_bytes, table_items, past_table, table-facts, HasTable, table-stands}

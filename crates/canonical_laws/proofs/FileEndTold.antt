@@ -1,13 +1,13 @@
 -- What the end of a file tells: its values fit its layout, take as many bytes whatever they are, and are read under their
 -- names.
-use Rattle.std.proofs.Common.{◌≡◌, ℕ, ◌+◌, ◌*◌, ◌^◌, ◌<◌, ◌≤◌, ◌⊎◌, inl, inr, Bool, true, false, ◌&&◌, cond, eqb, Option}
+use Rattle.std.proofs.Common.{◌≡◌, ℕ, ◌+◌, ◌^◌, ◌<◌, ◌≤◌, ◌⊎◌, inl, inr, Bool, true, false, ◌&&◌, cond, eqb, Option}
 use Rattle.std.proofs.Common.{Some, None, List, [], ◌∷◌, ◌++◌, length, codes, refl, sym, ap, ◌∙◌, subst, arith}
 use Rattle.std.proofs.Common.{length-append}
 use Rattle.std.specs.Prelude.{slice_get}
 use Rattle.std.specs.List.{list_all}
 use Rattle.std.specs.Option.{option_map_or}
 use Rattle.std.specs.Str.{bytes_eq}
-use Rattle.std.proofs.lemmas.Bool.{and_parts, false≢true, cond-false, eqb-true, eq-eqb, ne_eqb}
+use Rattle.std.proofs.lemmas.Bool.{and_parts, false≢true, eqb-true, eq-eqb, ne_eqb}
 use Rattle.std.proofs.lemmas.Option.{same_Some}
 use Rattle.std.proofs.lemmas.Slice.Eq.{bytes_eq-Decides}
 use Rattle.scalar_types.specs.declared.Order.TheVariants.{Little}
@@ -31,7 +31,7 @@ use Rattle.file_grammar.specs.Closing.{is_single, is_any, is_count, is_size, has
 use Rattle.contents_table.specs.Told.{blank_single}
 use Rattle.contents_table.proofs.FirstNamed.{named-at, number-is}
 use Rattle.canonical_file.specs.Ranges.{IsInRange}
-use Rattle.canonical_file.specs.Bytes.{number_bytes, value_bytes}
+use Rattle.canonical_file.specs.Bytes.{number_bytes}
 use Rattle.canonical_file.specs.Written.{end_told}
 use Rattle.canonical_laws.proofs.PlainFields.{form_by, value_at, plain_values, value-found, EachValue, InRange, value_size}
 use Rattle.canonical_laws.proofs.PlainFields.{IsSmall}

@@ -1,5 +1,5 @@
 -- The end of a canonical file: the entry of FrEndOfFile and its record.
-use Rattle.std.proofs.Common.{◌≡◌, ℕ, ◌+◌, ◌*◌, ◌^◌, ◌<◌, ◌≤◌, true, false, Some, None, List, [], ◌∷◌, ◌++◌, length, map}
+use Rattle.std.proofs.Common.{◌≡◌, ℕ, ◌+◌, ◌^◌, ◌<◌, ◌≤◌, true, false, Some, None, List, [], ◌∷◌, ◌++◌, length, map}
 use Rattle.std.proofs.Common.{codes, refl, sym, ap, ◌∙◌, subst, arith, inr}
 use Rattle.std.specs.Prelude.{unwrap_or}
 use Rattle.std.specs.List.{AllByRecursion}
@@ -8,7 +8,6 @@ use Rattle.record_values.specs.declared.values.Value.{Value}
 use Rattle.dictionary.specs.declared.entries.Element.{Element}
 use Rattle.dictionary.specs.declared.entries.Entry.{Entry}
 use Rattle.dictionary.specs.Dictionary.{entry_of, class_named}
-use Rattle.layout_plan.specs.declared.fields.Field.{Field}
 use Rattle.layout_plan.specs.Layout.{layout_of}
 use Rattle.layout_plan.specs.Body.{number_of}
 use Rattle.record_writer.specs.Fit.{Fits}
@@ -30,7 +29,7 @@ use Rattle.canonical_file.specs.Written.{end_told, end_bytes}
 use Rattle.canonical_laws.specs.Writable.{IsWritable, IsWritableFileEnd}
 use Rattle.canonical_laws.proofs.Holding.{Holds, holds-left, holds-right, length-structure}
 use Rattle.canonical_laws.proofs.WrittenRecords.{record_structure, record-size, record-stands, record-reads, reading_back}
-use Rattle.canonical_laws.proofs.WrittenRecords.{kind-held, past_entry, entry_item, record_item, entry-after}
+use Rattle.canonical_laws.proofs.WrittenRecords.{kind-held, past_entry, entry_item, entry-after}
 use Rattle.canonical_laws.proofs.WrittenRecords.{entry-may_stand}
 use Rattle.canonical_laws.proofs.PlainFields.{plain_fields, layout-plain, plain_values, values-plain, fits-plain, range-plain}
 use Rattle.canonical_laws.proofs.PlainFields.{size-plain, same_size-plain}

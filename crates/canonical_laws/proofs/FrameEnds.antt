@@ -1,7 +1,6 @@
 -- The end record of a frame, and the frames that items bring.
 use Rattle.std.proofs.Common.{◌≡◌, ℕ, ◌+◌, ◌<◌, ◌≤◌, false, Option, Some, None, List, [], ◌∷◌, ◌++◌, length, map, refl, sym}
-use Rattle.std.proofs.Common.{ap, ◌∙◌, subst, arith, append_assoc}
-use Rattle.scalar_types.specs.declared.Order.{Order}
+use Rattle.std.proofs.Common.{ap, ◌∙◌, subst, append_assoc}
 use Rattle.scalar_types.specs.declared.Order.TheVariants.{Little}
 use Rattle.dictionary.specs.declared.entries.Entry.{Entry}
 use Rattle.dictionary.specs.Dictionary.{entry_of}
@@ -10,14 +9,14 @@ use Rattle.file_grammar.specs.declared.kind.Kind.TheVariants.{FrSH, FrSE, FrameH
 use Rattle.file_grammar.specs.Structure.{Structure, end_of, record_limit, file_limit}
 use Rattle.file_grammar.specs.Kind.{kind_named, kind_of}
 use Rattle.file_grammar.specs.Record.{weight_of, AreLinked}
-use Rattle.file_grammar.specs.Item.{Item, OtherItem, Before, after_kind, after}
+use Rattle.file_grammar.specs.Item.{Item, Before, after_kind, after}
 use Rattle.file_grammar.specs.MayStand.{frames_limit, RecordMayStand, HasHeader, KindMayStand, Stand}
 use Rattle.item_reader.specs.State.{bodied_of}
 use Rattle.canonical_file.specs.Records.{Record, record_bytes}
 use Rattle.file_content.specs.Stored.{StoredFrame, brought, brought_in, frame_of_kind, frame_ended}
 use Rattle.canonical_laws.specs.Writable.{IsWritableEntry, IsWritable}
 use Rattle.canonical_laws.proofs.Holding.{Holds}
-use Rattle.canonical_laws.proofs.WrittenRecords.{record_structure, record-stands, record-weighs, kind-held, IsRowKind}
+use Rattle.canonical_laws.proofs.WrittenRecords.{record_structure, record-stands, kind-held, IsRowKind}
 use Rattle.canonical_laws.proofs.WrittenRecords.{frame_record, past_entry, record_item, items_by, Agrees, entry-after, past-held}
 
 -- ---- the end record

@@ -1,6 +1,6 @@
 -- The entries that frames need: they are of the dictionary, of records of frames, and of different classes. So they are
 -- few, and those of a closing are none of them.
-use Rattle.std.proofs.Common.{◌≡◌, ℕ, ◌+◌, ◌^◌, ◌<◌, ◌≤◌, ◌⊎◌, inl, inr, Bool, true, false, cond, eqb, Option, Some, None}
+use Rattle.std.proofs.Common.{◌≡◌, ℕ, ◌<◌, ◌≤◌, ◌⊎◌, inl, inr, Bool, true, false, cond, eqb, Option, Some, None}
 use Rattle.std.proofs.Common.{List, [], ◌∷◌, ◌++◌, length, map, refl, sym, ap, ◌∙◌, subst, arith}
 use Rattle.std.specs.List.{AllByRecursion, IsDistinct, list_any}
 use Rattle.std.specs.Str.{bytes_eq}
@@ -14,7 +14,7 @@ use Rattle.dictionary.specs.Dictionary.{entry_of, IsDictionary}
 use Rattle.file_grammar.specs.declared.kind.Kind.{Kind}
 use Rattle.file_grammar.specs.declared.kind.Kind.TheVariants.{FrSH, FrSE, FrameH, FrEndOfFrame, FrTOC, FrEndOfFile, Other}
 use Rattle.file_grammar.specs.Kind.{kind_named, is_frame_kind}
-use Rattle.frame_content.specs.Frames.{Frame, label_at}
+use Rattle.frame_content.specs.Frames.{Frame}
 use Rattle.canonical_file.specs.Records.{Record, end_record, records_of, added_by, with_record, entries_after}
 use Rattle.canonical_file.specs.Written.{Written, after_frame, after_frames}
 use Rattle.canonical_laws.specs.Content.{entry_named}

@@ -9,7 +9,6 @@ use Rattle.std.proofs.lemmas.List.Elements.{All-nil, All-cons, All-head, All-tai
 use Rattle.scalar_types.specs.declared.Order.TheVariants.{Little}
 use Rattle.record_values.specs.Links.{links_in}
 use Rattle.dictionary.specs.declared.entries.Entry.{Entry}
-use Rattle.dictionary.specs.Dictionary.{entry_of}
 use Rattle.link_graph.specs.declared.nodes.Root.TheVariants.{No}
 use Rattle.link_graph.specs.Collected.{Bodied}
 use Rattle.link_graph.specs.Table.{IsWithin}

@@ -1,6 +1,6 @@
 -- A file has one content, and a content one canonical file; and that canonical files tell contents follows from that they
 -- keep them.
-use Rattle.std.proofs.Common.{◌≡◌, ℕ, List, [], ◌∷◌, refl, sym, ◌∙◌, subst}
+use Rattle.std.proofs.Common.{◌≡◌, List, [], ◌∷◌, refl, sym, ◌∙◌, subst}
 use Rattle.std.specs.List.{AllZip}
 use Rattle.rooted_graph.proofs.Ends.{same_refl, same_sym, same_trans}
 use Rattle.file_grammar.proofs.Prefixes.{items_unique}

@@ -17,7 +17,7 @@ use Rattle.canonical_file.specs.Records.{Record, record_bytes, end_record, recor
 use Rattle.file_content.specs.Contents.{content_frame}
 use Rattle.canonical_laws.specs.Writable.{IsWritable, IsWritableFrame, size_of_record, as_read}
 use Rattle.canonical_laws.proofs.Holding.{Holds, holds-left, holds-right, holds-at}
-use Rattle.canonical_laws.proofs.WrittenRecords.{record_structure, record-size, record_item, Agrees, entry-before}
+use Rattle.canonical_laws.proofs.WrittenRecords.{record_structure, record-size, Agrees, entry-before}
 use Rattle.canonical_laws.proofs.WrittenRecords.{piece-stands}
 use Rattle.canonical_laws.proofs.RowsBack.{end-back}
 use Rattle.canonical_laws.proofs.AgreeingEntries.{AreIn, agrees-in, added-in, entries-longer}
