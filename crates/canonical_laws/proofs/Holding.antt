@@ -8,7 +8,7 @@ use Rattle.scalar_types.specs.declared.Order.TheVariants.{Little}
 use Rattle.frame_head.specs.declared.structure.Common.{Common}
 use Rattle.frame_head.specs.Structure.{common_of, common_bytes}
 use Rattle.frame_head.proofs.CommonBytes.{common_bytes-length, common_of-bytes}
-use Rattle.file_grammar.specs.Structure.{Structure, record_limit, file_limit, common_at, StandsWhole}
+use Rattle.file_grammar.specs.Structure.{record_limit, file_limit, common_at, StandsWhole}
 use Rattle.canonical_file.specs.Bytes.{structure_bytes}
 
 -- these bytes stand in the file at a place

@@ -7,7 +7,7 @@ use Rattle.std.proofs.lemmas.List.Sums.{count_by_more_yes, sum_by-take-le}
 use Rattle.link_graph.specs.declared.nodes.Root.TheVariants.{No}
 use Rattle.link_graph.specs.declared.nodes.Node.{Node}
 use Rattle.link_graph.specs.Collected.{Bodied, is_named, place_of}
-use Rattle.frame_content.specs.Frames.{Row, Frame, no_row, row_at}
+use Rattle.frame_content.specs.Frames.{Frame, no_row, row_at}
 use Rattle.canonical_file.specs.Ordered.{class_at, is_of_class, instance_at, new_link}
 
 -- ---- places

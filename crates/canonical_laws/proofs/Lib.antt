@@ -25,3 +25,15 @@ pub mod SourceStored
 pub mod SourceItems
 pub mod PrintedClosings
 pub mod SourceClosings
+pub mod FileEndTold
+pub mod FrameEnds
+pub mod FrameRecords
+pub mod WholeFrames
+pub mod Heads
+pub mod FileEnds
+pub mod FrameEntries
+pub mod TableParts
+pub mod ClosingParts
+pub mod ClosingsBack
+pub mod WholeFiles
+pub mod TellingApart

@@ -1,7 +1,7 @@
 -- The links of values, with others put in their place: these are the links then, and a label does not see them.
-use Rattle.std.proofs.Common.{◌≡◌, ℕ, suc, ◌≤◌, List, [], ◌∷◌, ◌++◌, length, map, take, drop, refl, ap, ◌∙◌, arith}
-use Rattle.std.proofs.Common.{length-append, length-take, length-drop}
-use Rattle.std.proofs.lemmas.List.{take-append-drop, length-map, length-take-le}
+use Rattle.std.proofs.Common.{◌≡◌, ℕ, List, [], ◌∷◌, ◌++◌, length, map, take, drop, refl, ap, ◌∙◌, arith}
+use Rattle.std.proofs.Common.{length-append, length-drop}
+use Rattle.std.proofs.lemmas.List.{take-append-drop, length-take-le}
 use Rattle.type_text.specs.declared.types.Link.{Link}
 use Rattle.record_values.specs.declared.values.Value.{Value}
 use Rattle.record_values.specs.declared.values.Value.TheVariants as value

@@ -1,13 +1,11 @@
 -- A written record reads back as the row that it was written from: its label, and its links.
 use Rattle.std.proofs.Common.{◌≡◌, ℕ, ◌<◌, ◌≤◌, Option, Some, None, List, [], ◌∷◌, length, map, All, refl, ap, ◌∙◌, sym}
 use Rattle.std.proofs.Common.{arith}
-use Rattle.std.specs.Option.{option_map_or}
 use Rattle.std.proofs.lemmas.Bool.{cond-false, ne_eqb}
 use Rattle.std.proofs.lemmas.List.{length-map}
 use Rattle.std.proofs.lemmas.List.Elements.{All-head, All-tail}
 use Rattle.scalar_types.specs.declared.Order.TheVariants.{Little}
 use Rattle.type_text.specs.declared.types.Link.{Link}
-use Rattle.record_values.specs.declared.values.Value.{Value}
 use Rattle.record_values.specs.Links.{links_in, linked}
 use Rattle.dictionary.specs.declared.entries.Entry.{Entry}
 use Rattle.dictionary.specs.Dictionary.{entry_of}
@@ -16,7 +14,7 @@ use Rattle.layout_plan.specs.Written.{cleared}
 use Rattle.link_graph.specs.declared.nodes.Root.{Root}
 use Rattle.link_graph.specs.Collected.{Bodied, target_of}
 use Rattle.link_graph.specs.Table.{IsWithin}
-use Rattle.file_grammar.specs.Record.{Reading, values_of}
+use Rattle.file_grammar.specs.Record.{values_of}
 use Rattle.frame_content.specs.Labels.{Label, unlinked, label_by}
 use Rattle.frame_content.specs.Frames.{Row, Frame, row_at, label_at, reading_in, values_in, label_of, row_of}
 use Rattle.canonical_file.specs.Ordered.{class_at, new_link}

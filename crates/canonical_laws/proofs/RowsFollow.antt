@@ -13,16 +13,16 @@ use Rattle.dictionary.specs.Dictionary.{entry_of, IsDictionary}
 use Rattle.file_grammar.specs.declared.kind.Kind.{Kind}
 use Rattle.file_grammar.specs.declared.kind.Kind.TheVariants.{FrSH, FrSE, FrameH, FrEndOfFrame, FrTOC, FrEndOfFile, Other}
 use Rattle.file_grammar.specs.Structure.{Structure, record_limit}
-use Rattle.file_grammar.specs.Kind.{kind_named, kind_of}
+use Rattle.file_grammar.specs.Kind.{kind_of}
 use Rattle.file_grammar.specs.Item.{Before}
 use Rattle.file_grammar.specs.MayStand.{IsNewIn, HasHeader}
 use Rattle.item_reader.proofs.Growing.{entry_of-stays, entry_of-own}
 use Rattle.frame_content.specs.Frames.{Row, Frame, no_row, row_at, label_at}
 use Rattle.canonical_file.specs.Ordered.{class_at, instance_at}
 use Rattle.canonical_file.specs.Records.{Record, record_bytes, row_record, added_by, entries_after}
-use Rattle.canonical_laws.specs.Writable.{IsWritable, IsRowOfKind, IsWritableRow, record_at, kind_at, size_of_record}
+use Rattle.canonical_laws.specs.Writable.{IsRowOfKind, IsWritableRow, record_at, kind_at, size_of_record}
 use Rattle.canonical_laws.proofs.Instances.{instance-less}
-use Rattle.canonical_laws.proofs.WrittenRecords.{record_structure, kind-held, IsRowKind, past_entry, MayFollow, Agrees}
+use Rattle.canonical_laws.proofs.WrittenRecords.{record_structure, kind-held, IsRowKind, MayFollow, Agrees}
 use Rattle.canonical_laws.proofs.RecordsInTurn.{before_record, after_piece, after_pieces, AllFollow}
 use Rattle.canonical_laws.proofs.AgreeingEntries.{AreIn, agrees-in, added-in, entries-longer}
 

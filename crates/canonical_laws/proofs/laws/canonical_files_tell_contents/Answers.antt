@@ -1,0 +1,8 @@
+use Rattle.canonical_laws.proofs.TellingApart.{tells, stays}
+use Rattle.canonical_laws.proofs.laws.canonical_files_tell_contents.Goals as goal
+
+pub returns-clause-tell : goal.returns-clause-tell
+returns-clause-tell c = tells
+
+pub returns-clause-stay : goal.returns-clause-stay
+returns-clause-stay c = stays
