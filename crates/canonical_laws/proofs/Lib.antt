@@ -37,3 +37,6 @@ pub mod ClosingParts
 pub mod ClosingsBack
 pub mod WholeFiles
 pub mod TellingApart
+pub mod FramesCounted
+pub mod Sources
+pub mod KeptContents
