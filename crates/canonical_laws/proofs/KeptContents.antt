@@ -1,5 +1,5 @@
 -- The canonical file of a well-formed file's content has the same content.
-use Rattle.std.proofs.Common.{◌≡◌, ℕ, suc, ◌≤◌, List, [], ◌∷◌, length, map, All, refl, sym, ap, ◌∙◌, subst, arith}
+use Rattle.std.proofs.Common.{◌≡◌, suc, ◌≤◌, List, [], ◌∷◌, length, map, All, refl, sym, ap, subst, arith}
 use Rattle.std.specs.List.{AllByRecursion, AllZip}
 use Rattle.std.proofs.lemmas.List.{length-map}
 use Rattle.std.proofs.lemmas.List.Elements.{All-head, All-tail}
@@ -13,9 +13,9 @@ use Rattle.file_content.specs.Stored.{frames_in}
 use Rattle.file_content.specs.Contents.{content_frame}
 use Rattle.canonical_file.specs.Ordered.{SameFrame, IsInOrder}
 use Rattle.canonical_file.specs.Written.{canonical_file}
-use Rattle.canonical_file.specs.Contents.{Content, SameContent}
+use Rattle.canonical_file.specs.Contents.{Content}
 use Rattle.canonical_file.proofs.SameOrder.{same_in_its_order}
-use Rattle.canonical_laws.specs.Content.{content_of, HasContent}
+use Rattle.canonical_laws.specs.Content.{content_of}
 use Rattle.canonical_laws.specs.Writable.{IsWritableFrame, IsWritableClosing, as_read}
 use Rattle.canonical_laws.specs.Laws.{ReadsBack, CanonicalFilesKeepContents}
 use Rattle.canonical_laws.specs.Sources.{printed_entries, IsWritableInOrder}

@@ -1,6 +1,6 @@
 -- The values of a label, and of the record that is written of it, in the place of those that were read: they fit the same
 -- layout, take as many bytes and have as many links.
-use Rattle.std.proofs.Common.{◌≡◌, ℕ, suc, ◌+◌, ◌*◌, ◌≤◌, Bool, true, false, cond, List, [], ◌∷◌, ◌++◌, length, map, take}
+use Rattle.std.proofs.Common.{◌≡◌, ℕ, ◌+◌, ◌*◌, Bool, true, false, cond, List, [], ◌∷◌, ◌++◌, length, map, take}
 use Rattle.std.proofs.Common.{drop, All, refl, sym, ap, ◌∙◌, subst, arith, append_assoc, length-append}
 use Rattle.std.proofs.Common.{length-take, length-drop}
 use Rattle.std.specs.Prelude.{⊤}
@@ -16,7 +16,7 @@ use Rattle.layout_plan.specs.declared.fields.Form.TheVariants.{Number, Pair, Tex
 use Rattle.layout_plan.specs.declared.fields.Count.{Count}
 use Rattle.layout_plan.specs.declared.fields.Field.{Field}
 use Rattle.layout_plan.specs.Layout.{IsEarlier, AreSound, AreSums}
-use Rattle.layout_plan.specs.Body.{number_of, item_count, value_length, values_length}
+use Rattle.layout_plan.specs.Body.{number_of, value_length, values_length}
 use Rattle.layout_plan.specs.Written.{cleared}
 use Rattle.layout_plan.proofs.BodyLemmas.{item_count-earlier}
 use Rattle.record_writer.specs.Fit.{FitsListed, FitsField, Fits}

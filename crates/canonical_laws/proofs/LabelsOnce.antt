@@ -1,5 +1,5 @@
 -- What is made a label is one: its entry is printed, its links are null and its check sum is 0.
-use Rattle.std.proofs.Common.{◌≡◌, Bool, true, false, cond, Option, Some, List, [], ◌∷◌, map, refl, sym, ap, ◌∙◌}
+use Rattle.std.proofs.Common.{◌≡◌, Bool, true, false, cond, Some, List, [], ◌∷◌, map, refl, ap, ◌∙◌}
 use Rattle.std.specs.Prelude.{unwrap_or}
 use Rattle.type_text.specs.declared.types.Link.{Link}
 use Rattle.record_values.specs.declared.values.Value.{Value}

@@ -1,18 +1,15 @@
 -- Printing changes nothing of what an entry of the closing has to have.
 use Rattle.std.proofs.Common.{◌≡◌, ℕ, ◌+◌, Bool, true, false, not, ◌&&◌, ◌||◌, cond, Option, Some, None, is_some, List, []}
-use Rattle.std.proofs.Common.{◌∷◌, map, codes, refl, sym, ap, ◌∙◌}
+use Rattle.std.proofs.Common.{◌∷◌, map, codes, refl, ap, ◌∙◌}
 use Rattle.std.specs.List.{list_any, list_all}
 use Rattle.std.specs.Option.{option_map, option_map_or}
 use Rattle.std.specs.Str.{bytes_eq}
 use Rattle.std.proofs.lemmas.List.Folds.{list_all-map}
-use Rattle.type_text.specs.declared.types.Base.{Base}
 use Rattle.dictionary.specs.declared.entries.Element.{Element}
 use Rattle.dictionary.specs.declared.entries.Entry.{Entry}
 use Rattle.dictionary.specs.Named.{first_named}
-use Rattle.layout_plan.specs.Layout.{layout_of}
 use Rattle.file_grammar.specs.Closing.{is_single, is_any, is_count, is_size, has_named, closes}
 use Rattle.frame_content.specs.Labels.{printed_element, printed_entry}
-use Rattle.contents_table.specs.declared.kind.Kind.{Kind}
 use Rattle.contents_table.specs.declared.kind.Kind.TheVariants.{Adc, Proc, Sim, Ser}
 use Rattle.contents_table.specs.Channels.{is_text}
 use Rattle.contents_table.specs.Fit.{count_field, names_field, positions_field, frames_field, heads_field, is_list, has_list}

@@ -1,6 +1,6 @@
 -- A dictionary of which each entry is printed is a dictionary.
-use Rattle.std.proofs.Common.{◌≡◌, ℕ, ◌≤◌, Bool, true, false, cond, eqb, suc, Option, Some, None, List, [], ◌∷◌, length}
-use Rattle.std.proofs.Common.{map, find, IsSomeAnd, refl, sym, ap, ◌∙◌, subst}
+use Rattle.std.proofs.Common.{◌≡◌, ℕ, ◌≤◌, Bool, true, false, cond, eqb, Option, Some, None, List, [], ◌∷◌}
+use Rattle.std.proofs.Common.{map, find, IsSomeAnd, refl, sym, ◌∙◌, subst}
 use Rattle.std.specs.Option.{option_map}
 use Rattle.std.specs.Str.{bytes_eq}
 use Rattle.std.proofs.lemmas.List.{length-map}

@@ -1,5 +1,5 @@
 -- An entry that is printed has the same layout, and is printed again as it is.
-use Rattle.std.proofs.Common.{◌≡◌, ℕ, ◌+◌, Bool, true, false, ◌&&◌, cond, Option, Some, None, List, [], ◌∷◌, ◌++◌, map}
+use Rattle.std.proofs.Common.{◌≡◌, ℕ, ◌+◌, Bool, true, false, cond, Option, Some, None, List, [], ◌∷◌, ◌++◌, map}
 use Rattle.std.proofs.Common.{refl, sym, ap, ◌∙◌}
 use Rattle.std.specs.Prelude.{option_and_then}
 use Rattle.std.specs.Option.{option_map, option_map_or}
@@ -8,12 +8,11 @@ use Rattle.std.proofs.lemmas.List.{map-append}
 use Rattle.type_text.specs.declared.types.ElementType.{ElementType}
 use Rattle.type_text.specs.TypeText.{printed, type_of}
 use Rattle.type_text.proofs.PrintedLemmas.{printed-read}
-use Rattle.type_text.proofs.SpellingLemmas.{type_of-grammar}
 use Rattle.dictionary.specs.declared.entries.Element.{Element}
 use Rattle.dictionary.specs.declared.entries.Entry.{Entry}
 use Rattle.dictionary.specs.Named.{first_named}
 use Rattle.dictionary.specs.Same.{IsRead}
-use Rattle.layout_plan.specs.Layout.{named_count, count_in, is_last, is_check_sum, field_of, fields_after, layout_of}
+use Rattle.layout_plan.specs.Layout.{named_count, count_in, is_last, field_of, fields_after, layout_of}
 use Rattle.frame_content.specs.Labels.{printed_element, printed_entry}
 
 -- printing changes neither names nor types

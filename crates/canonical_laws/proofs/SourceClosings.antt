@@ -1,10 +1,10 @@
 -- The closing of a well-formed file of bytes can be written.
 use Rattle.std.proofs.Common.{◌≡◌, ℕ, Bool, true, false, cond, Option, Some, None, IfSome, IsSomeAnd, List, [], ◌∷◌, map, find}
 use Rattle.std.proofs.Common.{codes, refl, sym, ap, ◌∙◌, subst, true≢false}
-use Rattle.std.specs.Prelude.{◌==◌, IsTrue, option_and_then}
+use Rattle.std.specs.Prelude.{◌==◌, option_and_then}
 use Rattle.std.specs.Option.{option_map, option_map_or}
 use Rattle.std.specs.Str.{bytes_eq}
-use Rattle.std.proofs.lemmas.Bool.{eq-eqb, cond-true}
+use Rattle.std.proofs.lemmas.Bool.{eq-eqb}
 use Rattle.std.proofs.lemmas.Option.{none-some, same_Some}
 use Rattle.std.proofs.lemmas.Slice.Eq.{bytes_eq-Decides}
 use Rattle.scalar_types.specs.declared.Order.{Order}
@@ -26,7 +26,6 @@ use Rattle.canonical_laws.specs.Writable.{IsWritableFileEnd, IsWritableTable, Is
 use Rattle.canonical_laws.proofs.Printing.{entry-twice}
 use Rattle.canonical_laws.proofs.PrintedDictionaries.{entry_of-printed}
 use Rattle.canonical_laws.proofs.PrintedClosings.{closes-printed, fit-printed}
-use Rattle.canonical_laws.proofs.Steps.{StaysIn, step-stays}
 use Rattle.canonical_laws.proofs.SourceEntries.{AreSources, source-held, entry-printed}
 use Rattle.canonical_laws.proofs.SourceStored.{held-class, held-kind}
 use Rattle.canonical_laws.proofs.SourceItems.{IsSourceBefore, item-source}

@@ -1,7 +1,6 @@
 -- What is known of a frame of a file of bytes, by its rows alone.
 use Rattle.std.proofs.Common.{◌≡◌, ℕ, ◌+◌, ◌<◌, ◌≤◌, ◌⊎◌, inl, inr, Bool, true, false, cond, true≢false, Some, List, []}
-use Rattle.std.proofs.Common.{◌∷◌, ◌++◌, length, All, sum_by, get_or, position, codes, refl, sym, ap, ◌∙◌, subst, arith}
-use Rattle.std.specs.Prelude.{Contains, nat_lt}
+use Rattle.std.proofs.Common.{◌∷◌, ◌++◌, length, All, sum_by, codes, refl, sym, ap, ◌∙◌, subst, arith}
 use Rattle.std.specs.List.{AllByRecursion, range_with_len, position_or_len}
 use Rattle.std.specs.Str.{bytes_eq}
 use Rattle.std.proofs.lemmas.Bool.{cond-true, cond-false, cases_lt, cases_Bool, lt-ltb, le-ltb, or_left}
@@ -18,7 +17,6 @@ use Rattle.rooted_graph.specs.BreadthOrder.{has}
 use Rattle.rooted_graph.proofs.Firsts.{has-append}
 use Rattle.rooted_graph.proofs.Places.{Contains_from_has}
 use Rattle.link_graph.specs.Table.{IsWithin}
-use Rattle.file_grammar.specs.declared.kind.Kind.{Kind}
 use Rattle.file_grammar.specs.declared.kind.Kind.TheVariants.{FrameH, FrEndOfFrame, FrTOC, FrEndOfFile, Other}
 use Rattle.file_grammar.specs.Structure.{record_limit}
 use Rattle.file_grammar.specs.Kind.{kind_named, is_target_kind}
@@ -28,7 +26,7 @@ use Rattle.frame_content.specs.Frames.{Row, Frame, no_row, row_at}
 use Rattle.contents_table.specs.Channels.{is_frame_header, header_of}
 use Rattle.canonical_file.specs.Renumbered.{IsLinked, HasOneHeader}
 use Rattle.canonical_laws.specs.Writable.{kind_at}
-use Rattle.canonical_laws.proofs.RootsInOrder.{root_numbers, numbers_from, named_at, AtFrom, numbers-sound}
+use Rattle.canonical_laws.proofs.RootsInOrder.{root_numbers, numbers_from, AtFrom, numbers-sound}
 use Rattle.canonical_laws.proofs.RootsInOrder.{numbers-complete}
 use Rattle.canonical_laws.proofs.SourceRecords.{IsSourceBody, canonical_length}
 

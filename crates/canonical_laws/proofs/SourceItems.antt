@@ -1,17 +1,17 @@
 -- Item after item of a file of bytes: the frame that is open, and the frames that have ended.
-use Rattle.std.proofs.Common.{◌≡◌, ℕ, ◌+◌, ◌≤◌, ◌⊎◌, inl, inr, Option, Some, None, List, [], ◌∷◌, ◌++◌, refl, sym, ap, subst}
+use Rattle.std.proofs.Common.{◌≡◌, ℕ, inl, inr, List, [], ◌∷◌, ◌++◌, refl, sym, ap, subst}
 use Rattle.std.proofs.Common.{◌∙◌}
 use Rattle.std.specs.List.{AllByRecursion}
 use Rattle.scalar_types.specs.declared.Order.{Order}
 use Rattle.dictionary.specs.declared.entries.Entry.{Entry}
-use Rattle.dictionary.specs.Dictionary.{entry_of, step}
+use Rattle.dictionary.specs.Dictionary.{step}
 use Rattle.file_grammar.specs.declared.kind.Kind.{Kind}
 use Rattle.file_grammar.specs.declared.kind.Kind.TheVariants.{FrSH, FrSE, FrameH, FrEndOfFrame, FrTOC, FrEndOfFile, Other}
 use Rattle.file_grammar.specs.Structure.{Structure}
 use Rattle.file_grammar.specs.Kind.{kind_of, is_target_kind}
 use Rattle.file_grammar.specs.Record.{weight_of}
-use Rattle.file_grammar.specs.Item.{Item, EntryItem, OtherItem, Before, nothing_yet, dictionary_by, after_kind, after}
-use Rattle.file_grammar.specs.MayStand.{RecordMayStand, HasHeader, KindMayStand, StructureMayStand, MayStand, Stand}
+use Rattle.file_grammar.specs.Item.{Item, EntryItem, OtherItem, Before, dictionary_by, after_kind, after}
+use Rattle.file_grammar.specs.MayStand.{RecordMayStand, KindMayStand, StructureMayStand, MayStand, Stand}
 use Rattle.file_content.specs.Stored.{StoredFrame, brought, brought_in, frame_of_kind, frame_ended}
 use Rattle.file_content.specs.Contents.{content_frame}
 use Rattle.canonical_file.specs.Ranges.{AreBytes}

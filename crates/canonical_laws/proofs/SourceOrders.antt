@@ -1,24 +1,20 @@
 -- A frame of a file of bytes, put in its order, can be written.
-use Rattle.std.proofs.Common.{◌≡◌, ℕ, zero, suc, ◌+◌, ◌*◌, ◌^◌, ◌<◌, ◌≤◌, Bool, true, false, cond, nat_eq, Option, Some, None}
-use Rattle.std.proofs.Common.{List, [], ◌∷◌, ◌++◌, length, map, take, All, sum_by, get_or, refl, sym, ap, ◌∙◌, subst, arith}
-use Rattle.std.specs.Prelude.{◌==◌, count_by}
-use Rattle.std.specs.List.{AllByRecursion, IsDistinct, enumerate_from, range_with_len}
+use Rattle.std.proofs.Common.{◌≡◌, ℕ, ◌+◌, ◌*◌, ◌^◌, ◌<◌, ◌≤◌, true, nat_eq, Option, Some, None}
+use Rattle.std.proofs.Common.{List, [], ◌∷◌, length, map, take, All, sum_by, get_or, refl, sym, ap, ◌∙◌, subst, arith}
+use Rattle.std.specs.List.{AllByRecursion, IsDistinct, enumerate_from}
 use Rattle.std.specs.Option.{option_map}
 use Rattle.std.proofs.lemmas.Bool.{eq-eqb, or_left, or_right}
 use Rattle.std.proofs.lemmas.List.{length-map, length-take, get_or-map}
 use Rattle.std.proofs.lemmas.List.Elements.{All-nil, All-cons, All-head, All-tail}
 use Rattle.std.proofs.lemmas.List.Sums.{count_by-le-length, sum_by-cons, sum_by_push, get_or-le-sum_by}
-use Rattle.std.proofs.lemmas.Option.{none-some, same_Some}
+use Rattle.std.proofs.lemmas.Option.{same_Some}
 use Rattle.scalar_types.specs.declared.Order.{Order}
 use Rattle.type_text.specs.declared.types.Link.{Link as StructLink}
-use Rattle.record_values.specs.declared.values.Value.{Value}
-use Rattle.record_values.specs.Links.{links_in, linked}
+use Rattle.record_values.specs.Links.{links_in}
 use Rattle.dictionary.specs.declared.entries.Entry.{Entry}
 use Rattle.dictionary.specs.Dictionary.{entry_of}
 use Rattle.layout_plan.specs.Body.{number_of}
-use Rattle.layout_plan.specs.Written.{cleared}
-use Rattle.rooted_graph.specs.Rooted.{Rooted}
-use Rattle.rooted_graph.specs.BreadthOrder.{has, number_of as place_in, first_occurrences, roots_and_targets, IsBreadthOrder}
+use Rattle.rooted_graph.specs.BreadthOrder.{has, number_of as place_in, roots_and_targets, IsBreadthOrder}
 use Rattle.rooted_graph.specs.InOrder.{renumbered}
 use Rattle.rooted_graph.proofs.Firsts.{has_at, first_occurrences_distinct}
 use Rattle.rooted_graph.proofs.Places.{number_has, number_at}
@@ -31,11 +27,10 @@ use Rattle.file_grammar.specs.declared.kind.Kind.TheVariants.{FrSH, FrSE, FrameH
 use Rattle.file_grammar.specs.Structure.{record_limit}
 use Rattle.file_grammar.specs.Kind.{kind_named, is_target_kind}
 use Rattle.file_grammar.specs.Record.{Reading}
-use Rattle.frame_content.specs.Labels.{Label, null_link, unlinked, printed_entry, label_by}
+use Rattle.frame_content.specs.Labels.{Label, null_link, printed_entry, label_by}
 use Rattle.frame_content.specs.Frames.{Row, Frame, no_row, row_at, label_at}
 use Rattle.canonical_file.specs.Ranges.{IsLinkInRange}
 use Rattle.canonical_file.specs.Ordered.{frame_graph, row_in, ordered, class_of, class_at, is_of_class, instance_at, new_link}
-use Rattle.canonical_file.specs.Ordered.{IsInOrder}
 use Rattle.canonical_file.specs.Records.{Record, row_record, end_record, records_of}
 use Rattle.canonical_file.proofs.RenumberedChannels.{member-within}
 use Rattle.canonical_laws.specs.Writable.{IsLabel, IsRow, IsWritable, IsRowOfKind, IsWritableRow, IsWritableEnd}
@@ -44,11 +39,11 @@ use Rattle.canonical_laws.proofs.DistinctSums.{distinct-sum}
 use Rattle.canonical_laws.proofs.LabelFits.{all-links, label-stands}
 use Rattle.canonical_laws.proofs.LabelsOnce.{label-is}
 use Rattle.canonical_laws.proofs.PrintedDictionaries.{entry_of-printed}
-use Rattle.canonical_laws.proofs.RootsInOrder.{root_numbers, roots-in-order}
+use Rattle.canonical_laws.proofs.RootsInOrder.{roots-in-order}
 use Rattle.canonical_laws.proofs.Steps.{StaysIn}
-use Rattle.canonical_laws.proofs.SourceRecords.{IsSourceBody, canonical_length, new_record, new-size, new-writable, is-layout}
+use Rattle.canonical_laws.proofs.SourceRecords.{canonical_length, new-size, new-writable, is-layout}
 use Rattle.canonical_laws.proofs.SourceRecords.{source-fits, ready-plain, ready-linked}
-use Rattle.canonical_laws.proofs.SourceFrames.{IsSourceLabel, IsSourceRow, IsSourceFrame, source-linked, header-root}
+use Rattle.canonical_laws.proofs.SourceFrames.{IsSourceFrame, source-linked, header-root}
 
 -- ---- sums over an order
 

@@ -1,18 +1,13 @@
 -- A record of a file of bytes, written again with other links: it can be, and is no longer than the record weighs.
-use Rattle.std.proofs.Common.{◌≡◌, ℕ, ◌+◌, ◌^◌, ◌<◌, ◌≤◌, Option, Some, None, List, [], ◌∷◌, length, map, All, Bool, cond}
-use Rattle.std.proofs.Common.{refl, sym, ap, ◌∙◌, subst, arith, true, false, length-append}
-use Rattle.std.specs.Prelude.{◌==◌, option_and_then}
+use Rattle.std.proofs.Common.{◌≡◌, ℕ, ◌+◌, ◌^◌, ◌<◌, ◌≤◌, Some, List, length, map, All}
+use Rattle.std.proofs.Common.{sym, ap, ◌∙◌, subst, arith, length-append}
 use Rattle.std.specs.List.{AllByRecursion}
-use Rattle.std.specs.Option.{option_map_or}
-use Rattle.std.proofs.lemmas.Bool.{eqb-true}
-use Rattle.std.proofs.lemmas.Option.{same_Some, option_and_then_some}
 use Rattle.scalar_types.specs.declared.Order.{Order}
 use Rattle.scalar_types.specs.declared.Order.TheVariants.{Little}
 use Rattle.type_text.specs.declared.types.Link.{Link as StructLink}
 use Rattle.record_values.specs.declared.values.Value.{Value}
 use Rattle.record_values.specs.Links.{links_in, linked}
 use Rattle.dictionary.specs.declared.entries.Entry.{Entry}
-use Rattle.dictionary.specs.Dictionary.{entry_of}
 use Rattle.layout_plan.specs.declared.fields.Field.{Field}
 use Rattle.layout_plan.specs.Layout.{IsLayout, layout_of}
 use Rattle.layout_plan.specs.Body.{number_of, IsBody, values_length}
@@ -23,20 +18,19 @@ use Rattle.record_writer.proofs.FitLemmas.{body_fits}
 use Rattle.frame_head.specs.declared.structure.Common.{Common}
 use Rattle.frame_head.specs.Structure.{common_bytes}
 use Rattle.frame_head.proofs.CommonBytes.{common_bytes-length}
-use Rattle.file_grammar.specs.Structure.{Structure, record_limit, size_of}
-use Rattle.file_grammar.specs.Record.{Reading, layout_in, reading_by, reading_of, weight_of}
-use Rattle.file_grammar.proofs.Bodies.{reading-found, reading-fields}
+use Rattle.file_grammar.specs.Structure.{record_limit}
+use Rattle.file_grammar.specs.Record.{Reading}
 use Rattle.frame_content.specs.Labels.{unlinked, printed_entry}
 use Rattle.canonical_file.specs.Ranges.{AreBytes, IsLinkInRange, IsInRange}
 use Rattle.canonical_file.specs.Bytes.{body_bytes}
-use Rattle.canonical_file.specs.Records.{Record, entry_fields, record_bytes}
+use Rattle.canonical_file.specs.Records.{Record, entry_fields}
 use Rattle.canonical_file.proofs.Spelled.{body-written}
 use Rattle.canonical_laws.specs.Writable.{IsWritableEntry, IsWritable, size_of_record}
 use Rattle.canonical_laws.proofs.Printing.{layout-printed}
 use Rattle.canonical_laws.proofs.LabelFits.{AllStandFor, stands-fit, all-lengths, label-stands, linked-label-stands}
 use Rattle.canonical_laws.proofs.LabelRanges.{label-range, linked-label-range}
 use Rattle.canonical_laws.proofs.LabelsOnce.{fields-printed}
-use Rattle.canonical_laws.proofs.SourceEntries.{AreSources, source-held, entry-printed}
+use Rattle.canonical_laws.proofs.SourceEntries.{entry-printed}
 
 -- ---- a body that reads
 

@@ -1,6 +1,6 @@
 -- The frames that have ended in a beginning of a file of bytes, and the frame that is open.
-use Rattle.std.proofs.Common.{◌≡◌, ℕ, zero, suc, ◌+◌, ◌<◌, ◌≤◌, ◌⊎◌, inl, inr, Bool, true, false, cond, Option, Some, None}
-use Rattle.std.proofs.Common.{List, [], ◌∷◌, ◌++◌, length, map, take, All, Any, sum_by, get_or, position, refl, sym, ap, ◌∙◌}
+use Rattle.std.proofs.Common.{◌≡◌, ℕ, zero, suc, ◌+◌, ◌<◌, ◌≤◌, ◌⊎◌, inl, inr, Bool, true, false, cond, Some, None}
+use Rattle.std.proofs.Common.{List, [], ◌∷◌, ◌++◌, length, map, take, All, sum_by, get_or, refl, sym, ap, ◌∙◌}
 use Rattle.std.proofs.Common.{subst, arith, length-append}
 use Rattle.std.specs.Prelude.{◌==◌, option_and_then}
 use Rattle.std.specs.List.{AllZip, range_with_len, position_or_len}
@@ -8,35 +8,32 @@ use Rattle.std.specs.Option.{option_map_or}
 use Rattle.std.proofs.Math.Seq.{get_or-append_seam}
 use Rattle.std.proofs.lemmas.Bool.{cond-true, cond-false, cases_lt, eqb-true, ne_eqb, lt-ltb, le-ltb}
 use Rattle.std.proofs.lemmas.List.{length-map, get_or-map, get_or_append_left, get_or_default, take_more, take_all}
-use Rattle.std.proofs.lemmas.List.Elements.{All-nil, All-cons, All-head, All-tail, All-push, All-weaker, All-get_or}
+use Rattle.std.proofs.lemmas.List.Elements.{All-nil, All-cons, All-head, All-tail, All-push, All-weaker}
 use Rattle.std.proofs.lemmas.List.Sums.{sum_by-cons, sum_by_push}
 use Rattle.std.proofs.lemmas.Option.{same_Some, option_and_then_some}
 use Rattle.scalar_types.specs.declared.Order.{Order}
 use Rattle.type_text.specs.declared.types.Link.{Link}
-use Rattle.record_values.specs.declared.values.Value.{Value}
 use Rattle.record_values.specs.Links.{links_in}
 use Rattle.dictionary.specs.declared.entries.Entry.{Entry}
 use Rattle.dictionary.specs.Dictionary.{entry_of}
-use Rattle.layout_plan.specs.declared.fields.Field.{Field}
 use Rattle.layout_plan.specs.Layout.{layout_of}
 use Rattle.layout_plan.specs.Body.{IsBody, values_length}
 use Rattle.layout_plan.proofs.LayoutLemmas.{layout_of-sound}
 use Rattle.link_graph.specs.declared.nodes.Root.TheVariants.{No}
 use Rattle.link_graph.specs.Collected.{Bodied, is_named, place_of, target_of}
 use Rattle.link_graph.specs.Table.{IsWithin}
-use Rattle.file_grammar.specs.declared.kind.Kind.{Kind}
-use Rattle.file_grammar.specs.declared.kind.Kind.TheVariants.{FrSH, FrSE, FrameH, FrEndOfFrame, FrTOC, FrEndOfFile, Other}
+use Rattle.file_grammar.specs.declared.kind.Kind.TheVariants.{FrSH, FrSE, FrameH, FrEndOfFrame, Other}
 use Rattle.file_grammar.specs.Structure.{Structure, record_limit, size_of}
 use Rattle.file_grammar.specs.Kind.{kind_named, kind_of, is_target_kind}
-use Rattle.file_grammar.specs.Record.{Reading, layout_in, reading_by, reading_of, values_of, weight_of}
+use Rattle.file_grammar.specs.Record.{Reading, layout_in, reading_by, reading_of, weight_of}
 use Rattle.file_grammar.specs.MayStand.{HasHeader}
 use Rattle.file_grammar.proofs.Bodies.{reading-found, reading-fields}
 use Rattle.item_reader.specs.Roles.{root_of, root_named}
 use Rattle.item_reader.specs.State.{bodied_of}
-use Rattle.frame_content.specs.Labels.{Label, label_by, printed_entry, no_entry}
+use Rattle.frame_content.specs.Labels.{label_by, printed_entry, no_entry}
 use Rattle.frame_content.specs.Frames.{Row, Frame, no_row, row_at, label_of, values_in, row_of, frame_by}
 use Rattle.canonical_file.specs.Ranges.{AreBytes}
-use Rattle.canonical_laws.specs.Writable.{IsWritableEntry, kind_at}
+use Rattle.canonical_laws.specs.Writable.{kind_at}
 use Rattle.canonical_laws.proofs.DistinctSums.{range-push}
 use Rattle.canonical_laws.proofs.RootsByName.{IsMarked, roots-agree}
 use Rattle.canonical_laws.proofs.Steps.{StaysIn, reading-stays, kind-stays, weight-stays}

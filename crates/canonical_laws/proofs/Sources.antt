@@ -1,6 +1,5 @@
 -- What a file of bytes holds can be written again.
-use Rattle.std.proofs.Common.{◌≡◌, ℕ, true, false, true≢false, List, map, All, sym, subst, ◌∙◌, refl}
-use Rattle.std.specs.List.{AllByRecursion}
+use Rattle.std.proofs.Common.{◌≡◌, ℕ, true≢false, List, All, sym, subst}
 use Rattle.std.proofs.lemmas.List.Elements.{All-from_recursion, All-map, All-weaker}
 use Rattle.scalar_types.specs.declared.Order.{Order}
 use Rattle.dictionary.specs.declared.entries.Entry.{Entry}
