@@ -44,7 +44,12 @@ stand-counted order file b last (item ∷ items) few stand =
     let here = item-counted order file b item few stand.0 in
     let rest = stand-counted order file (after order b item) last items here.few stand.1 in
     record {
-      told = omega (arith, here.told, rest.told, length-append (brought frame_ended b item)
-          (brought_in frame_ended order (after order b item) items));
+      told = omega (
+        arith,
+        here.told,
+        rest.told,
+        length-append (brought frame_ended b item)
+            (brought_in frame_ended order (after order b item) items),
+      );
       few = rest.few;
     }

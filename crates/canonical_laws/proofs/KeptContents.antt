@@ -29,9 +29,10 @@ orders-writable : (dictionary : List Entry) (fs os : List Frame) → All (IsWrit
 orders-writable dictionary [] [] all orders = tt
 orders-writable dictionary [] (o ∷ os) all orders = absurd orders
 orders-writable dictionary (f ∷ fs) [] all orders = absurd orders
-orders-writable dictionary (f ∷ fs) (o ∷ os) all orders =
-    ((All-head (IsWritableInOrder dictionary) f fs all).writable o orders.0,
-    orders-writable dictionary fs os (All-tail (IsWritableInOrder dictionary) f fs all) orders.1)
+orders-writable dictionary (f ∷ fs) (o ∷ os) all orders = (
+  (All-head (IsWritableInOrder dictionary) f fs all).writable o orders.0,
+  orders-writable dictionary fs os (All-tail (IsWritableInOrder dictionary) f fs all) orders.1,
+)
 
 -- they read back as the same frames
 orders-same : (dictionary : List Entry) (fs os : List Frame) → All (IsWritableInOrder dictionary) fs
@@ -39,10 +40,11 @@ orders-same : (dictionary : List Entry) (fs os : List Frame) → All (IsWritable
 orders-same dictionary [] [] all orders = tt
 orders-same dictionary [] (o ∷ os) all orders = absurd orders
 orders-same dictionary (f ∷ fs) [] all orders = absurd orders
-orders-same dictionary (f ∷ fs) (o ∷ os) all orders =
-    (subst (SameFrame f) (sym ((All-head (IsWritableInOrder dictionary) f fs all).as_read_is o orders.0))
-    (same_in_its_order f o orders.0),
-    orders-same dictionary fs os (All-tail (IsWritableInOrder dictionary) f fs all) orders.1)
+orders-same dictionary (f ∷ fs) (o ∷ os) all orders = (
+  subst (SameFrame f) (sym ((All-head (IsWritableInOrder dictionary) f fs all).as_read_is o orders.0))
+      (same_in_its_order f o orders.0),
+  orders-same dictionary fs os (All-tail (IsWritableInOrder dictionary) f fs all) orders.1,
+)
 
 as-many : (fs os : List Frame) → AllZip IsInOrder fs os → length os ≡ length fs
 as-many [] [] orders = refl
@@ -51,18 +53,21 @@ as-many (f ∷ fs) [] orders = absurd orders
 as-many (f ∷ fs) (o ∷ os) orders = ap suc (as-many fs os orders.1)
 
 pub kept_contents : CanonicalFilesKeepContents
-kept_contents file bytes c these has canonical short =
-    (content_of Little read.items read.last, record {
-      order = Little;
-      items = read.items;
-      last = read.last;
-      well_formed = subst (λ xs. IsWellFormed xs Little read.items read.last) (sym canonical.is) read.well_formed;
-      is = refl;
-    }, record {
-      closing = ap (λ (d : Content). d.closing) (sym read.content_is);
-      frames = subst (λ (d : Content). AllZip SameFrame c.frames d.frames) (sym read.content_is)
-          (orders-same dictionary c.frames canonical.ordered frames canonical.in_order);
-    })
+kept_contents file bytes c these has canonical short = (
+  content_of Little read.items read.last,
+  record {
+    order = Little;
+    items = read.items;
+    last = read.last;
+    well_formed = subst (λ xs. IsWellFormed xs Little read.items read.last) (sym canonical.is) read.well_formed;
+    is = refl;
+  },
+  record {
+    closing = ap (λ (d : Content). d.closing) (sym read.content_is);
+    frames = subst (λ (d : Content). AllZip SameFrame c.frames d.frames) (sym read.content_is)
+        (orders-same dictionary c.frames canonical.ordered frames canonical.in_order);
+  },
+)
   where
     dictionary : List Entry
     dictionary = printed_entries has.last.dictionary

@@ -1,8 +1,8 @@
 -- The values that a body of bytes spells are in range, and so are those of its label, with links in range.
-use Rattle.std.proofs.Common.{◌≡◌, ℕ, ◌<◌, Bool, true, false, cond, List, [], ◌∷◌, ◌++◌, length, map, take}
-use Rattle.std.proofs.Common.{drop, All, subst, arith}
+use Rattle.std.proofs.Common.{ℕ, ◌<◌, Bool, true, false, cond, List, [], ◌∷◌, length, map, take}
+use Rattle.std.proofs.Common.{drop, All, arith}
 use Rattle.std.specs.List.{AllByRecursion}
-use Rattle.std.proofs.lemmas.List.Elements.{All-nil, All-cons, All-head, All-tail, All-take, All-drop}
+use Rattle.std.proofs.lemmas.List.Elements.{All-nil, All-cons, All-head, All-take, All-drop}
 use Rattle.scalar_types.specs.declared.Order.{Order}
 use Rattle.scalar_types.specs.declared.Order.TheVariants.{Big, Little}
 use Rattle.scalar_types.specs.declared.Width.TheVariants.{One, Two, Four, Eight}
@@ -19,17 +19,7 @@ use Rattle.layout_plan.specs.Body.{number_of, item_count, IsSingle, IsListed, Is
 use Rattle.layout_plan.specs.Written.{cleared}
 use Rattle.frame_content.specs.Labels.{null_link, nullified, unlinked}
 use Rattle.canonical_file.specs.Ranges.{IsByte, AreBytes, IsLinkInRange, IsInRange}
-
--- ---- the parts of bytes
-
-parts : {X : Type 0} (P : X → Type 0) (xs ys : List X) → All P (xs ++ ys) → All P xs × All P ys
-parts P [] ys all = (All-nil P, all)
-parts P (x ∷ xs) ys all =
-    let rest = parts P xs ys (All-tail P x (xs ++ ys) all) in
-    (All-cons P x xs (All-head P x (xs ++ ys) all) rest.0, rest.1)
-
-parts_of : (bytes front back : List ℕ) → bytes ≡ front ++ back → AreBytes bytes → AreBytes front × AreBytes back
-parts_of bytes front back split all = parts IsByte front back (subst AreBytes split all)
+use Rattle.canonical_file.proofs.Spelled.{parts_of}
 
 -- a number of one byte, in either order
 one-byte : (order : Order) (n : ℕ) (bytes : List ℕ) → AreBytes bytes → IsNumber order One n bytes → n < 256
@@ -50,7 +40,7 @@ bytes-range order (x ∷ xs) bytes all (front, rest, split, r, items) =
 
 -- ---- the values of a body, their links null
 
-null-range : IsLinkInRange null_link
+pub null-range : IsLinkInRange null_link
 null-range = (omega arith, omega arith)
 
 nulls-range : (links : List StructLink) → All IsLinkInRange (map nullified links)
@@ -93,7 +83,8 @@ fields-range order numbers (f ∷ fs) (v ∷ vs) bytes all (front, rest, split, 
 
 -- ---- neither the check sum 0 nor links that are in range change this
 
-cleared-range : (fs : List Field) (vs : List Value) → AllByRecursion IsInRange vs → AllByRecursion IsInRange (cleared fs vs)
+cleared-range : (fs : List Field) (vs : List Value) → AllByRecursion IsInRange vs
+    → AllByRecursion IsInRange (cleared fs vs)
 cleared-range [] vs all = all
 cleared-range (f ∷ fs) [] all = tt
 cleared-range (f ∷ fs) (v ∷ vs) all = (by f.is_sum, cleared-range fs vs all.1)

@@ -39,7 +39,8 @@ cleared-twice [] vs = all-twice vs
 cleared-twice (f ∷ fs) [] = refl
 cleared-twice (f ∷ fs) (v ∷ vs) = λ i. by f.is_sum i ∷ cleared-twice fs vs i
   where
-    by : (b : Bool) → cond b (value.Num 0) (unlinked (cond b (value.Num 0) (unlinked v))) ≡ cond b (value.Num 0) (unlinked v)
+    by : (b : Bool)
+        → cond b (value.Num 0) (unlinked (cond b (value.Num 0) (unlinked v))) ≡ cond b (value.Num 0) (unlinked v)
     by true = refl
     by false = unlinked-twice v
 

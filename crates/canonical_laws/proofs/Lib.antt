@@ -6,7 +6,7 @@ pub mod LabelsOnce
 pub mod DistinctSums
 pub mod RootsInOrder
 pub mod SourceEntries
-pub mod Steps
+pub mod DictionarySteps
 pub mod SourceRecords
 pub mod SourceFrames
 pub mod SourceOrders

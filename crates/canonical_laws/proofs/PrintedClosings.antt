@@ -33,7 +33,8 @@ named-printed i (e ∷ es) name = by (bytes_eq name e.name) (named-printed (i + 
 
 -- a test that does not see the text of a type
 test-printed : (test : Element → Bool) → ((e : Element) → test (printed_element e) ≡ test e) → (es : List Element)
-    (name : List ℕ) → option_map_or (λ (found : ℕ × Element). test found.1) (first_named 0 (map printed_element es) name) false
+    (name : List ℕ)
+    → option_map_or (λ (found : ℕ × Element). test found.1) (first_named 0 (map printed_element es) name) false
     ≡ option_map_or (λ (found : ℕ × Element). test found.1) (first_named 0 es name) false
 test-printed test same es name =
     ap (λ o. option_map_or (λ (found : ℕ × Element). test found.1) o false) (named-printed 0 es name)

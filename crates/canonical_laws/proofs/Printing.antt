@@ -25,7 +25,8 @@ first-printed i (e ∷ es) name = by (bytes_eq name e.name) (first-printed (i + 
     by : (b : Bool)
         → option_and_then named_count (first_named (i + 1) (map printed_element es) name)
         ≡ option_and_then named_count (first_named (i + 1) es name)
-        → option_and_then named_count (cond b (Some (i, printed_element e)) (first_named (i + 1) (map printed_element es) name))
+        → option_and_then named_count
+        (cond b (Some (i, printed_element e)) (first_named (i + 1) (map printed_element es) name))
         ≡ option_and_then named_count (cond b (Some (i, e)) (first_named (i + 1) es name))
     by true later = refl
     by false later = later

@@ -120,27 +120,36 @@ fold-fresh xs (y ∷ ys) fresh =
 
 fresh-append : (xs ys zs : List ℕ) → AllFresh xs ys → AllFresh (xs ++ ys) zs → AllFresh xs (ys ++ zs)
 fresh-append xs [] zs first second = subst (λ ws. AllFresh ws zs) (append-nil xs) second
-fresh-append xs (y ∷ ys) zs first second =
-    (first.0, fresh-append (xs ++ y ∷ []) ys zs first.1 (subst (λ ws. AllFresh ws zs) (sym (append_assoc xs (y ∷ []) ys)) second))
+fresh-append xs (y ∷ ys) zs first second = (
+  first.0,
+  fresh-append (xs ++ y ∷ []) ys zs first.1
+      (subst (λ ws. AllFresh ws zs) (sym (append_assoc xs (y ∷ []) ys)) second),
+)
 
-fresh-numbers : (name : List ℕ) (i : ℕ) (rows : List Row) (xs : List ℕ)
-    → ((k : ℕ) → k < length rows → named_at name rows k ≡ true → has xs (i + k) ≡ false)
+-- no row of the name has its number in the list
+abbrev NoneIn : List ℕ → List ℕ → ℕ → List Row → Type 0
+NoneIn xs name i rows = (k : ℕ) → k < length rows → named_at name rows k ≡ true → has xs (i + k) ≡ false
+
+fresh-numbers : (name : List ℕ) (i : ℕ) (rows : List Row) (xs : List ℕ) → NoneIn xs name i rows
     → AllFresh xs (numbers_from name i rows)
 fresh-numbers name i [] xs fresh = tt
 fresh-numbers name i (r ∷ rs) xs fresh = by (bytes_eq r.label.entry.name name) refl (fresh-numbers name (i + 1) rs)
   where
     step : (ys : List ℕ) → ((k : ℕ) → k < length rs → named_at name rs k ≡ true → has ys (i + suc k) ≡ false)
-        → (k : ℕ) → k < length rs → named_at name rs k ≡ true → has ys (i + 1 + k) ≡ false
+        → NoneIn ys name (i + 1) rs
     step ys less k within is = ap (has ys) (omega arith) ∙ less k within is
 
+    pushed : (k : ℕ) → k < length rs → named_at name rs k ≡ true → has (xs ++ i ∷ []) (i + suc k) ≡ false
+    pushed k within named =
+        has-push xs i (i + suc k)
+        ∙ ap (λ b. b || nat_eq (i + suc k) i) (fresh (suc k) (omega arith) named)
+        ∙ ne_eqb (i + suc k) i (λ e. omega (arith, e))
+
     by : (b : Bool) → bytes_eq r.label.entry.name name ≡ b
-        →
-        ((ys : List ℕ) → ((k : ℕ) → k < length rs → named_at name rs k ≡ true → has ys (i + 1 + k) ≡ false) → AllFresh ys (numbers_from name (i + 1) rs)) → AllFresh xs (cons_option (cond b (Some i) None) (numbers_from name (i + 1) rs))
-    by true is later = (
-      ap (has xs) (sym (add-zero i)) ∙ fresh 0 (omega arith) is,
-      later (xs ++ i ∷ [])
-      (step (xs ++ i ∷ []) (λ k within named. has-push xs i (i + suc k) ∙ ap (λ b. b || nat_eq (i + suc k) i) (fresh (suc k) (omega arith) named) ∙ ne_eqb (i + suc k) i (λ e. omega (arith, e)))),
-    )
+        → ((ys : List ℕ) → NoneIn ys name (i + 1) rs → AllFresh ys (numbers_from name (i + 1) rs))
+        → AllFresh xs (cons_option (cond b (Some i) None) (numbers_from name (i + 1) rs))
+    by true is later =
+        (ap (has xs) (sym (add-zero i)) ∙ fresh 0 (omega arith) is, later (xs ++ i ∷ []) (step (xs ++ i ∷ []) pushed))
     by false is later = later xs (step xs (λ k within named. fresh (suc k) (omega arith) named))
 
 has-all : (P : ℕ → Type 0) (xs : List ℕ) (n : ℕ) → AllByRecursion P xs → has xs n ≡ true → P n
@@ -168,8 +177,10 @@ distinct-parts (x ∷ xs) ys distinct = both ys (behind xs ys distinct.0) (disti
     both : (ys : List ℕ) → AllByRecursion (λ y. nat_eq x y ≡ false) ys → AllByRecursion (λ y. has xs y ≡ false) ys
         → AllByRecursion (λ y. has (x ∷ xs) y ≡ false) ys
     both [] first second = tt
-    both (y ∷ ys) first second =
-        (ap (λ b. b || has xs y) (ne_eqb y x (λ same. eqb-false x y first.0 (sym same))) ∙ second.0, both ys first.1 second.1)
+    both (y ∷ ys) first second = (
+      ap (λ b. b || has xs y) (ne_eqb y x (λ same. eqb-false x y first.0 (sym same))) ∙ second.0,
+      both ys first.1 second.1,
+    )
 
 range-append : (a m n : ℕ) → range_with_len a (m + n) ≡ range_with_len a m ++ range_with_len (a + m) n
 range-append a zero n = (λ i. range_with_len (one i) (two i))
@@ -256,11 +267,12 @@ not-named name rows n none other = by (named_at name rows n) refl (cases_lt n (l
     by : (b : Bool) → named_at name rows n ≡ b → (n < length rows) ⊎ (length rows ≤ n) → b ≡ false
     by false is place = refl
     by true is (inl within) =
-        absurd
-        (true≢false (sym (ap (has (numbers_from name 0 rows)) (omega arith) ∙ numbers-complete name 0 rows n within is) ∙ other))
+        let there : has (numbers_from name 0 rows) n ≡ true =
+        ap (has (numbers_from name 0 rows)) (omega arith) ∙ numbers-complete name 0 rows n within is in
+        absurd (true≢false (sym there ∙ other))
     by true is (inr past) =
-        absurd
-        (true≢false (sym is ∙ ap (λ (r : Row). bytes_eq r.label.entry.name name) (get_or_past rows n no_row past) ∙ none))
+        let gone = ap (λ (r : Row). bytes_eq r.label.entry.name name) (get_or_past rows n no_row past) in
+        absurd (true≢false (sym is ∙ gone ∙ none))
 
 both-false : (a b : Bool) → (a || b) ≡ false → (a ≡ false) × (b ≡ false)
 both-false true b is = absurd (true≢false is)
@@ -328,12 +340,14 @@ roots-in-order f s order roots =
     let headers : passing is_head 0 s ≡ range_with_len 0 (length a) =
     parts is_head
     ∙
-    (λ i. passing-all is_head 0 a heads_are i ++ passing-none is_head (0 + length a) b stats_alone i ++ passing-none is_head (0 + length r) t others_no_head i)
+    (λ i. passing-all is_head 0 a heads_are i ++ passing-none is_head (0 + length a) b stats_alone i
+    ++ passing-none is_head (0 + length r) t others_no_head i)
     ∙ append-nil (range_with_len 0 (length a) ++ []) ∙ append-nil (range_with_len 0 (length a)) in
     let stats : passing is_stat 0 s ≡ range_with_len (0 + length a) (length b) =
     parts is_stat
     ∙
-    (λ i. passing-none is_stat 0 a heads_alone i ++ passing-all is_stat (0 + length a) b stats_are i ++ passing-none is_stat (0 + length r) t others_no_stat i)
+    (λ i. passing-none is_stat 0 a heads_alone i ++ passing-all is_stat (0 + length a) b stats_are i
+    ++ passing-none is_stat (0 + length r) t others_no_stat i)
     ∙ append-nil (range_with_len (0 + length a) (length b)) in
     let right : root_numbers (ordered f s).rows
     ≡ range_with_len 0 (length a) ++ range_with_len (0 + length a) (length b) =

@@ -122,7 +122,8 @@ kind-end order file b s is unclosed may FrEndOfFile kind_is standing closed = re
   closing = standing.layout;
 }
 kind-end order file b s is unclosed may FrameH kind_is standing closed = absurd (true≢false (sym closed ∙ unclosed))
-kind-end order file b s is unclosed may FrEndOfFrame kind_is standing closed = absurd (true≢false (sym closed ∙ unclosed))
+kind-end order file b s is unclosed may FrEndOfFrame kind_is standing closed =
+    absurd (true≢false (sym closed ∙ unclosed))
 kind-end order file b s is unclosed may FrTOC kind_is standing closed = absurd (true≢false (sym closed ∙ unclosed))
 kind-end order file b s is unclosed may FrSH kind_is standing closed = absurd (true≢false (sym closed ∙ unclosed))
 kind-end order file b s is unclosed may FrSE kind_is standing closed = absurd (true≢false (sym closed ∙ unclosed))
@@ -138,7 +139,8 @@ pub stand-end : (order : Order) (file : List ℕ) (b last : Before) (items : Lis
     → Stand order file b items last → IsSourceBefore order b → (b.closed ≡ true → HasFileEnd b.dictionary)
     → last.closed ≡ true → HasFileEnd last.dictionary
 stand-end order file b last [] bytes stand is end closed =
-    subst (λ (x : Before). HasFileEnd x.dictionary) (sym stand) (end (ap (λ (x : Before). x.closed) (sym stand) ∙ closed))
+    subst (λ (x : Before). HasFileEnd x.dictionary) (sym stand)
+    (end (ap (λ (x : Before). x.closed) (sym stand) ∙ closed))
 stand-end order file b last (item ∷ items) bytes stand is end closed =
     stand-end order file (after order b item) last items bytes stand.1 (item-source order file b item bytes stand.0 is)
     (item-end order file b item is stand.0) closed

@@ -26,6 +26,7 @@ use Rattle.file_grammar.specs.Described.{IsElement, AreElements, IsEntry}
 use Rattle.frame_content.specs.Labels.{printed_element, printed_entry}
 use Rattle.canonical_file.specs.Ranges.{IsByte, AreBytes}
 use Rattle.canonical_laws.specs.Writable.{IsWritableElement, IsWritableEntry}
+use Rattle.canonical_laws.proofs.AgreeingEntries.{all-push}
 use Rattle.canonical_laws.proofs.Printing.{printed-reads}
 
 -- the body of a structure of a file of bytes is bytes
@@ -129,16 +130,11 @@ are-read : (es : List Element) → AllByRecursion IsWritableElement es → AllBy
 are-read [] all = tt
 are-read (e ∷ es) all = (all.0.read, are-read es all.1)
 
-push : (held : List Entry) (e : Entry) → AllByRecursion IsWritableEntry held → IsWritableEntry e
-    → AllByRecursion IsWritableEntry (held ++ e ∷ [])
-push [] e all here = (here, tt)
-push (x ∷ xs) e all here = (all.0, push xs e all.1 here)
-
 -- an entry that is new
 pub source-push : (held : List Entry) (e : Entry) → AreSources held → IsSourceEntry e → IsNew held e
     → AreSources (held ++ e ∷ [])
 source-push held e are is new = record {
-  writable = push held e are.writable (record {
+  writable = all-push IsWritableEntry held e are.writable (record {
     low = new.low;
     high = new.high;
     short = new.short;
@@ -147,5 +143,5 @@ source-push held e are is new = record {
     elements = is.elements;
   });
   sound = IsDictionary-new held e are.sound new
-  (All-from_recursion IsRead e.elements (are-read e.elements is.elements));
+      (All-from_recursion IsRead e.elements (are-read e.elements is.elements));
 }

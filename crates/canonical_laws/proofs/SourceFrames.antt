@@ -93,7 +93,8 @@ row-header r is = turned r.label.entry.name (codes "FrameH") refl (header-named 
 
 -- ---- roots and links
 
-both : (P : ℕ → Type 0) (xs ys : List ℕ) → AllByRecursion P xs → AllByRecursion P ys → AllByRecursion P (xs ++ ys)
+pub both : {X : Type 0} (P : X → Type 0) (xs ys : List X) → AllByRecursion P xs → AllByRecursion P ys
+    → AllByRecursion P (xs ++ ys)
 both P [] ys first second = second
 both P (x ∷ xs) ys first second = (first.0, both P xs ys first.1 second)
 
@@ -111,11 +112,11 @@ numbers-below name rows = below name rows (numbers_from name 0 rows) (numbers-so
 pub source-linked : {order : Order} {held : List Entry} (f : Frame) → IsSourceFrame order held f → IsLinked f
 source-linked f source = record {
   roots = subst (All (λ n. n < length f.rows)) (sym source.roots)
-  (All-from_recursion (λ n. n < length f.rows) (root_numbers f.rows)
-  (both (λ n. n < length f.rows) (numbers_from (codes "FrameH") 0 f.rows) (numbers_from (codes "FrStatData") 0 f.rows)
-  (numbers-below (codes "FrameH") f.rows) (numbers-below (codes "FrStatData") f.rows)));
+      (All-from_recursion (λ n. n < length f.rows) (root_numbers f.rows)
+      (both (λ n. n < length f.rows) (numbers_from (codes "FrameH") 0 f.rows) (numbers_from (codes "FrStatData") 0 f.rows)
+      (numbers-below (codes "FrameH") f.rows) (numbers-below (codes "FrStatData") f.rows)));
   links = All-from_get_or (λ (r : Row). All (IsWithin (length f.rows)) r.links) f.rows no_row
-  (λ n within. (source.rows n within).within);
+      (λ n within. (source.rows n within).within);
 }
 
 -- ---- the one FrameH
@@ -165,8 +166,8 @@ found-header f n is = by (cases_lt (position_or_len is_frame_header f.rows) (len
     by : (position_or_len is_frame_header f.rows < length f.rows)
         ⊎ (length f.rows ≤ position_or_len is_frame_header f.rows) → is_frame_header (row_at f n) ≡ true
     by (inl less) =
-        let same : position_or_len is_frame_header f.rows ≡ n =
-        same_Some _ _ (sym (cond-true _ _ _ (lt-ltb (position_or_len is_frame_header f.rows) (length f.rows) less)) ∙ is) in
+        let there = cond-true _ _ _ (lt-ltb (position_or_len is_frame_header f.rows) (length f.rows) less) in
+        let same : position_or_len is_frame_header f.rows ≡ n = same_Some _ _ (sym there ∙ is) in
         subst (λ k. is_frame_header (row_at f k) ≡ true) same (passes_at_first is_frame_header f.rows no_row less)
     by (inr past) =
         absurd (none-some n (sym (cond-false _ _ _

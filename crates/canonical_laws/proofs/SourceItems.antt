@@ -1,5 +1,5 @@
 -- Item after item of a file of bytes: the frame that is open, and the frames that have ended.
-use Rattle.std.proofs.Common.{◌≡◌, ℕ, inl, inr, List, [], ◌∷◌, ◌++◌, refl, sym, ap, subst}
+use Rattle.std.proofs.Common.{◌≡◌, ℕ, inl, inr, List, [], ◌∷◌, refl, sym, ap, subst}
 use Rattle.std.proofs.Common.{◌∙◌}
 use Rattle.std.specs.List.{AllByRecursion}
 use Rattle.scalar_types.specs.declared.Order.{Order}
@@ -15,9 +15,9 @@ use Rattle.file_grammar.specs.MayStand.{RecordMayStand, KindMayStand, StructureM
 use Rattle.file_content.specs.Stored.{StoredFrame, brought, brought_in, frame_of_kind, frame_ended}
 use Rattle.file_content.specs.Contents.{content_frame}
 use Rattle.canonical_file.specs.Ranges.{AreBytes}
-use Rattle.canonical_laws.proofs.Steps.{Stepped, after-gives, StaysIn, step-stays}
+use Rattle.canonical_laws.proofs.DictionarySteps.{Stepped, after-gives, StaysIn, step-stays}
 use Rattle.canonical_laws.proofs.SourceEntries.{IsSourceEntry, entry-source, AreSources, source-push, body-bytes}
-use Rattle.canonical_laws.proofs.SourceFrames.{IsSourceFrame}
+use Rattle.canonical_laws.proofs.SourceFrames.{IsSourceFrame, both}
 use Rattle.canonical_laws.proofs.SourceStored.{IsSourceRecord, IsOpenFrame, open-grows, open-push, no-frame, ended-source}
 
 -- the frame that is open before a place
@@ -60,27 +60,37 @@ Leaves order b s kind =
 kind-leaves : (order : Order) (file : List ℕ) (b : Before) (s : Structure) → AreBytes file → IsSourceBefore order b
     → (may : StructureMayStand order file b s) → (kind : Kind) → kind_of b.dictionary s.class ≡ kind
     → KindMayStand kind order b s → Leaves order b s kind
-kind-leaves order file b s bytes is may Other kind_is (standing, new) =
-    (open-push order b.dictionary b.frame b.load s is (structure-record order file b s bytes may standing)
-    (ap is_target_kind kind_is) (λ header. absurd (other (sym kind_is ∙ header))), tt)
+kind-leaves order file b s bytes is may Other kind_is (standing, new) = (
+  open-push order b.dictionary b.frame b.load s is (structure-record order file b s bytes may standing)
+      (ap is_target_kind kind_is) (λ header. absurd (other (sym kind_is ∙ header))),
+  tt,
+)
   where
     other : Other ≡ FrameH → ⊥
     other same = cc
-kind-leaves order file b s bytes is may FrameH kind_is (standing, new, one) =
-    (open-push order b.dictionary b.frame b.load s is (structure-record order file b s bytes may standing)
-    (ap is_target_kind kind_is) (λ header. one), tt)
-kind-leaves order file b s bytes is may FrEndOfFrame kind_is (standing, header, linked, few) =
-    (no-frame order b.dictionary is.sources, (record {
+kind-leaves order file b s bytes is may FrameH kind_is (standing, new, one) = (
+  open-push order b.dictionary b.frame b.load s is (structure-record order file b s bytes may standing)
+      (ap is_target_kind kind_is) (λ header. one),
+  tt,
+)
+kind-leaves order file b s bytes is may FrEndOfFrame kind_is (standing, header, linked, few) = (
+  no-frame order b.dictionary is.sources,
+  (
+    record {
       source = ended-source order b.dictionary b.frame b.load s is (structure-record order file b s bytes may standing)
           kind_is header standing.load;
       stays = λ class e held. held;
-    }, tt))
+    },
+    tt,
+  ),
+)
 kind-leaves order file b s bytes is may FrTOC kind_is standing = (is, tt)
 kind-leaves order file b s bytes is may FrEndOfFile kind_is standing = (is, tt)
 kind-leaves order file b s bytes is may FrSH kind_is standing = absurd standing
 kind-leaves order file b s bytes is may FrSE kind_is standing = absurd standing
 
-kind-keeps : (kind : Kind) (b : Before) (s : Structure) (weight : ℕ) → (after_kind kind b s weight).dictionary ≡ b.dictionary
+kind-keeps : (kind : Kind) (b : Before) (s : Structure) (weight : ℕ)
+    → (after_kind kind b s weight).dictionary ≡ b.dictionary
 kind-keeps FrSH b s weight = refl
 kind-keeps FrSE b s weight = refl
 kind-keeps FrameH b s weight = refl
@@ -114,18 +124,16 @@ item-frames order file b (OtherItem s) bytes may is =
 
 -- ---- all items
 
-both : (P : StoredFrame → Type 0) (xs ys : List StoredFrame) → AllByRecursion P xs → AllByRecursion P ys
-    → AllByRecursion P (xs ++ ys)
-both P [] ys first second = second
-both P (x ∷ xs) ys first second = (first.0, both P xs ys first.1 second)
-
 later : (order : Order) (held next : List Entry) (frames : List StoredFrame) → StaysIn held next
     → AllByRecursion (IsStoredSource order held) frames → AllByRecursion (IsStoredSource order next) frames
 later order held next [] stays all = tt
-later order held next (x ∷ xs) stays all = (record {
-  source = all.0.source;
-  stays = λ class e is. stays class e (all.0.stays class e is);
-}, later order held next xs stays all.1)
+later order held next (x ∷ xs) stays all = (
+  record {
+    source = all.0.source;
+    stays = λ class e is. stays class e (all.0.stays class e is);
+  },
+  later order held next xs stays all.1,
+)
 
 -- What is known before the place after items.
 pub record AreSourceItems (order : Order) (b : Before) (items : List Item) (last : Before) : Type 0 where

@@ -27,7 +27,7 @@ use Rattle.file_grammar.specs.declared.kind.Kind.TheVariants.{FrSH, FrSE, FrameH
 use Rattle.file_grammar.specs.Structure.{record_limit}
 use Rattle.file_grammar.specs.Kind.{kind_named, is_target_kind}
 use Rattle.file_grammar.specs.Record.{Reading}
-use Rattle.frame_content.specs.Labels.{Label, null_link, printed_entry, label_by}
+use Rattle.frame_content.specs.Labels.{Label, printed_entry, label_by}
 use Rattle.frame_content.specs.Frames.{Row, Frame, no_row, row_at, label_at}
 use Rattle.canonical_file.specs.Ranges.{IsLinkInRange}
 use Rattle.canonical_file.specs.Ordered.{frame_graph, row_in, ordered, class_of, class_at, is_of_class, instance_at, new_link}
@@ -37,10 +37,11 @@ use Rattle.canonical_laws.specs.Writable.{IsLabel, IsRow, IsWritable, IsRowOfKin
 use Rattle.canonical_laws.specs.Writable.{IsWritableFrame, kind_at, size_of_record, as_read}
 use Rattle.canonical_laws.proofs.DistinctSums.{distinct-sum}
 use Rattle.canonical_laws.proofs.LabelFits.{all-links, label-stands}
+use Rattle.canonical_laws.proofs.LabelRanges.{null-range}
 use Rattle.canonical_laws.proofs.LabelsOnce.{label-is}
 use Rattle.canonical_laws.proofs.PrintedDictionaries.{entry_of-printed}
 use Rattle.canonical_laws.proofs.RootsInOrder.{roots-in-order}
-use Rattle.canonical_laws.proofs.Steps.{StaysIn}
+use Rattle.canonical_laws.proofs.DictionarySteps.{StaysIn}
 use Rattle.canonical_laws.proofs.SourceRecords.{canonical_length, new-size, new-writable, is-layout}
 use Rattle.canonical_laws.proofs.SourceRecords.{source-fits, ready-plain, ready-linked}
 use Rattle.canonical_laws.proofs.SourceFrames.{IsSourceFrame, source-linked, header-root}
@@ -49,20 +50,17 @@ use Rattle.canonical_laws.proofs.SourceFrames.{IsSourceFrame, source-linked, hea
 
 all-from_has : (P : ℕ → Type 0) (xs : List ℕ) → ((x : ℕ) → has xs x ≡ true → P x) → AllByRecursion P xs
 all-from_has P [] each = tt
-all-from_has P (x ∷ xs) each =
-    (each x (or_left (nat_eq x x) (has xs x) (eq-eqb x x refl)),
-    all-from_has P xs (λ y there. each y (or_right (nat_eq y x) (has xs y) there)))
+all-from_has P (x ∷ xs) each = (
+  each x (or_left (nat_eq x x) (has xs x) (eq-eqb x x refl)),
+  all-from_has P xs (λ y there. each y (or_right (nat_eq y x) (has xs y) there)),
+)
 
 at-least : (c : ℕ) (g : ℕ → ℕ) (xs : List ℕ) → AllByRecursion (λ x. c ≤ g x) xs → c * length xs ≤ sum_by g xs
 at-least c g [] all = omega arith
 at-least c g (x ∷ xs) all = omega (arith, all.0, at-least c g xs all.1, sum_by-cons g x xs)
 
-null-range : IsLinkInRange null_link
-null-range = (omega arith, omega arith)
-
 module _ (order : Order) (held : List Entry) (f : Frame) (s : List ℕ) (source : IsSourceFrame order held f)
     (breadth : IsBreadthOrder (frame_graph f).graph s) where
-
   abbrev o : Frame
   o = ordered f s
 
@@ -117,7 +115,8 @@ module _ (order : Order) (held : List Entry) (f : Frame) (s : List ℕ) (source 
 
   class-low : (k : ℕ) → k < length s → class_at o k ≤ 255
   class-low k less =
-      subst (λ (r : Row). class_of r ≤ 255) (sym (row-is k less)) (source.rows (get_or s k 0) (at k less)).label.source.entry.high
+      subst (λ (r : Row). class_of r ≤ 255) (sym (row-is k less))
+      (source.rows (get_or s k 0) (at k less)).label.source.entry.high
 
   link-within : (link : Option ℕ) → IsWithin (length s) (renumbered s link)
   link-within None = tt
@@ -130,7 +129,8 @@ module _ (order : Order) (held : List Entry) (f : Frame) (s : List ℕ) (source 
   links-within : (links : List (Option ℕ)) → All (IsWithin (length s)) (map (renumbered s) links)
   links-within [] = All-nil (IsWithin (length s))
   links-within (link ∷ links) =
-      All-cons (IsWithin (length s)) (renumbered s link) (map (renumbered s) links) (link-within link) (links-within links)
+      All-cons (IsWithin (length s)) (renumbered s link) (map (renumbered s) links) (link-within link)
+      (links-within links)
 
   link-range : (link : Option ℕ) → IsWithin (length s) link → IsLinkInRange (new_link o link)
   link-range None within = null-range
@@ -257,7 +257,8 @@ module _ (order : Order) (held : List Entry) (f : Frame) (s : List ℕ) (source 
   end-size =
       let end = source.end in
       let size = new-size end.source 0 _ (ready-plain end.source) in
-      let same = ap (λ (l : Label). size_of_record (record { entry = l.entry; instance = 0; values = l.values })) end.is in
+      let same =
+      ap (λ (l : Label). size_of_record (record { entry = l.entry; instance = 0; values = l.values })) end.is in
       omega (arith, size, same, end.weight_is)
 
   end-fits : (next : List Entry) → StaysIn held next → IsWritableEnd (map printed_entry next) o
@@ -282,8 +283,13 @@ module _ (order : Order) (held : List Entry) (f : Frame) (s : List ℕ) (source 
   rows-size i (x ∷ xs) all =
       let rest : List Record = map (row_record o) (enumerate_from (i + 1) (map (row_in f s) xs)) in
       let later = rows-size (i + 1) xs all.1 in
-      omega (arith, row-size x all.0 i, later, sum_by-cons source.weights x xs,
-      sum_by-cons size_of_record (row_record o (i, row_in f s x)) rest)
+      omega (
+        arith,
+        row-size x all.0 i,
+        later,
+        sum_by-cons source.weights x xs,
+        sum_by-cons size_of_record (row_record o (i, row_in f s x)) rest,
+      )
 
   frame-size : sum_by size_of_record (records_of o) ≤ record_limit
   frame-size =

@@ -98,13 +98,15 @@ new-writable {order} {e} {reading} {body} is instance values ready few small =
 
 pub ready-plain : {order : Order} {e : Entry} {reading : Reading} {body : List ℕ} → IsSourceBody order e reading body
     → AreReady reading (cleared reading.fields (map unlinked reading.values))
-ready-plain {order} {e} {reading} {body} is =
-    (label-stands reading.fields reading.values (is-layout is).sums (source-fits is),
-    label-range order reading.fields reading.values reading.tail body is.bytes is.spelled)
+ready-plain {order} {e} {reading} {body} is = (
+  label-stands reading.fields reading.values (is-layout is).sums (source-fits is),
+  label-range order reading.fields reading.values reading.tail body is.bytes is.spelled,
+)
 
 pub ready-linked : {order : Order} {e : Entry} {reading : Reading} {body : List ℕ} → IsSourceBody order e reading body
     → (links : List StructLink) → length links ≡ length (links_in reading.values) → All IsLinkInRange links
     → AreReady reading (linked (cleared reading.fields (map unlinked reading.values)) links)
-ready-linked {order} {e} {reading} {body} is links many range =
-    (linked-label-stands reading.fields reading.values links (is-layout is).sums (source-fits is) many,
-    linked-label-range order reading.fields reading.values reading.tail body links is.bytes is.spelled range)
+ready-linked {order} {e} {reading} {body} is links many range = (
+  linked-label-stands reading.fields reading.values links (is-layout is).sums (source-fits is) many,
+  linked-label-range order reading.fields reading.values reading.tail body links is.bytes is.spelled range,
+)

@@ -36,7 +36,7 @@ use Rattle.canonical_file.specs.Ranges.{AreBytes}
 use Rattle.canonical_laws.specs.Writable.{kind_at}
 use Rattle.canonical_laws.proofs.DistinctSums.{range-push}
 use Rattle.canonical_laws.proofs.RootsByName.{IsMarked, roots-agree}
-use Rattle.canonical_laws.proofs.Steps.{StaysIn, reading-stays, kind-stays, weight-stays}
+use Rattle.canonical_laws.proofs.DictionarySteps.{StaysIn, reading-stays, kind-stays, weight-stays}
 use Rattle.canonical_laws.proofs.SourceEntries.{AreSources, source-held}
 use Rattle.canonical_laws.proofs.SourceRecords.{IsSourceBody, canonical_length}
 use Rattle.canonical_laws.proofs.SourceFrames.{IsSourceLabel, IsSourceRow, IsSourceFrame}
@@ -76,7 +76,8 @@ pub held-kind : (held : List Entry) (class : ℕ) (e : Entry) → AreSources hel
 held-kind held class e sources is =
     let same = held-class held class e is in
     let low : 3 ≤ class = omega (arith, same, (source-held held class e sources is).low) in
-    ap (λ o. cond (class == 1) FrSH (cond (class == 2) FrSE (option_map_or (λ (x : Entry). kind_named x.name) o Other))) is
+    ap (λ o. cond (class == 1) FrSH (cond (class == 2) FrSE (option_map_or (λ (x : Entry). kind_named x.name) o Other)))
+    is
     ∙ cond-false _ _ _ (ne_eqb class 1 (λ one. omega (arith, low, one)))
     ∙ cond-false _ _ _ (ne_eqb class 2 (λ two. omega (arith, low, two)))
 
@@ -166,7 +167,7 @@ pub open-grows : (order : Order) (held next : List Entry) (frame : List Structur
 open-grows order held next frame load stays sources is = record {
   sources = sources;
   records = All-weaker (IsSourceRecord order held) (IsSourceRecord order next)
-  (λ s. record-stays order held next s stays) frame is.records;
+      (λ s. record-stays order held next s stays) frame is.records;
   kinds = λ k d less. ap is_target_kind (same-kind order held next (get_or frame k d) stays (is.records k d less))
       ∙ is.kinds k d less;
   one = λ j k first second head other. is.one j k first second
@@ -249,9 +250,11 @@ target-within nodes link = by (link.class == 0) (cases_lt (first_place nodes lin
         → IsWithin (length nodes) (cond b None (place_of nodes link))
     by true within = tt
     by false (inl less) =
-        subst (IsWithin (length nodes)) (sym (cond-true _ _ _ (lt-ltb (first_place nodes link) (length nodes) less))) less
+        let found = cond-true _ _ _ (lt-ltb (first_place nodes link) (length nodes) less) in
+        subst (IsWithin (length nodes)) (sym found) less
     by false (inr past) =
-        subst (IsWithin (length nodes)) (sym (cond-false _ _ _ (le-ltb (first_place nodes link) (length nodes) past))) tt
+        let none = cond-false _ _ _ (le-ltb (first_place nodes link) (length nodes) past) in
+        subst (IsWithin (length nodes)) (sym none) tt
 
 targets-within : (nodes : List Bodied) (links : List Link) → All (IsWithin (length nodes)) (map (target_of nodes) links)
 targets-within nodes [] = All-nil (IsWithin (length nodes))
@@ -261,7 +264,6 @@ targets-within nodes (link ∷ links) =
 
 module _ (order : Order) (held : List Entry) (frame : List Structure) (load : ℕ) (s : Structure)
     (is : IsOpenFrame order held frame load) (end : IsSourceRecord order held s) where
-
   abbrev nodes : List Bodied
   nodes = map (bodied_of held) frame
 
@@ -308,9 +310,10 @@ module _ (order : Order) (held : List Entry) (frame : List Structure) (load : �
   all-marked : (ts : List Structure) → All (IsSourceRecord order held) ts
       → AllZip IsMarked (map (bodied_of held) ts) (map (row_of order held nodes) (map (bodied_of held) ts))
   all-marked [] all = tt
-  all-marked (t ∷ ts) all =
-      (mark t (All-head (IsSourceRecord order held) t ts all),
-      all-marked ts (All-tail (IsSourceRecord order held) t ts all))
+  all-marked (t ∷ ts) all = (
+    mark t (All-head (IsSourceRecord order held) t ts all),
+    all-marked ts (All-tail (IsSourceRecord order held) t ts all),
+  )
     where
       mark : (t : Structure) → (here : IsSourceRecord order held t)
           → root_of held t.class ≡ root_named (label_of order held (bodied_of held t)).entry.name

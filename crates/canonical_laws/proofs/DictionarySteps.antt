@@ -55,14 +55,16 @@ step-gives held e next is = built (is_built_in e.class) refl is
         → IsNew held e × (next ≡ held ++ e ∷ [])
     new a b none (Some c) long named size f = wrong NameTwice f
     new a b none None true named size f = wrong ElementLimit f
-    new a b none None false named size f =
-        (record {
-          low = low a b;
-          high = ltb-false 255 e.class (or_parts (e.class == 0) (nat_lt 255 e.class) b).1;
-          short = ltb-false 4096 (length e.elements) size;
-          class = none;
-          name = named;
-        }, same_Ok (held ++ e ∷ []) f)
+    new a b none None false named size f = (
+      record {
+        low = low a b;
+        high = ltb-false 255 e.class (or_parts (e.class == 0) (nat_lt 255 e.class) b).1;
+        short = ltb-false 4096 (length e.elements) size;
+        class = none;
+        name = named;
+      },
+      same_Ok (held ++ e ∷ []) f,
+    )
 
     found : is_built_in e.class ≡ false → is_out_of_range e.class ≡ false → (o : Option Entry)
         → entry_of held e.class ≡ o → step_by o held e ≡ Ok next → Stepped held e next
