@@ -21,3 +21,4 @@ pub mod ClosingParts
 pub mod ClosingsBack
 pub mod WholeFiles
 pub mod TellingApart
+pub mod OpenPrefixes

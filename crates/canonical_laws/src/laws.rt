@@ -4,6 +4,7 @@
 ghost use Rattle.canonical_laws.specs.Laws.{WrittenFilesAreReadBack, ContentsAreUnique};
 ghost use Rattle.canonical_laws.specs.Laws.{CanonicalFilesAreUnique, CanonicalFilesKeepContents};
 ghost use Rattle.canonical_laws.specs.Laws.{CanonicalFilesTellContents, CanonicalFilesStay};
+ghost use Rattle.canonical_laws.specs.Laws.{NoPrefixOfAnOpenFile, NoPrefixOfACanonicalHead};
 
 /// A canonical file of frames and of a closing that can be written is well-formed and reads back as these.
 pub fn written_files_are_read_back()
@@ -21,4 +22,10 @@ pub fn canonical_files_are_unique()
 pub fn canonical_files_tell_contents()
     ensures tell { CanonicalFilesKeepContents → CanonicalFilesTellContents }
     ensures stay { CanonicalFilesKeepContents → CanonicalFilesStay }
+{}
+
+/// No prefix of a file that is still open is well-formed, and so none of a canonical head.
+pub fn no_head_looks_whole()
+    ensures open_file { NoPrefixOfAnOpenFile }
+    ensures canonical_head { NoPrefixOfACanonicalHead }
 {}
