@@ -1,5 +1,6 @@
 -- No prefix of a file that is still open is well-formed: so no prefix of a canonical head is.
-use Rattle.std.proofs.Common.{◌≡◌, ℕ, ◌≤◌, true, false, List, [], ◌∷◌, ◌++◌, length, take, refl, sym, ap, ◌∙◌, subst, arith}
+use Rattle.std.proofs.Common.{◌≡◌, ℕ, ◌≤◌, true, false, List, [], ◌∷◌, ◌++◌, length, take, refl, sym, ap, ◌∙◌, subst}
+use Rattle.std.proofs.Common.{arith}
 use Rattle.std.proofs.Common.{append-nil, length-append, length-take}
 use Rattle.std.proofs.lemmas.List.{take-take}
 use Rattle.scalar_types.specs.declared.Order.{Order}

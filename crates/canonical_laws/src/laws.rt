@@ -1,5 +1,5 @@
-//! The laws of contents and canonical files. Each is the contract of a function that does nothing: a crate that
-//! calls the function has the law.
+//! The laws of contents and canonical files. Each is the contract of a function that does nothing: a crate
+//! that calls the function has the law.
 
 ghost use Rattle.canonical_laws.specs.Laws.{WrittenFilesAreReadBack, ContentsAreUnique};
 ghost use Rattle.canonical_laws.specs.Laws.{CanonicalFilesAreUnique, CanonicalFilesKeepContents};
@@ -17,8 +17,8 @@ pub fn canonical_files_are_unique()
     ensures files { CanonicalFilesAreUnique }
 {}
 
-/// Where canonical files keep contents, they are equal exactly where the contents are the same, and the canonical
-/// file of a canonical file is that file.
+/// Where canonical files keep contents, they are equal exactly where the contents are the same, and the
+/// canonical file of a canonical file is that file.
 pub fn canonical_files_tell_contents()
     ensures tell { CanonicalFilesKeepContents → CanonicalFilesTellContents }
     ensures stay { CanonicalFilesKeepContents → CanonicalFilesStay }
