@@ -5,7 +5,8 @@ use Rattle.dictionary.specs.declared.entries.Entry.{Entry}
 use Rattle.frame_content.specs.Frames.{Row, Frame}
 use Rattle.canonical_file.specs.Written.{canonical_file}
 use Rattle.canonical_file.specs.Splices.{clash_of, as_used}
-use Rattle.canonical_file.proofs.Sample.{computing, element, entry, header_entry, vector_entry, frame_end_entry, closing}
+use Rattle.canonical_file.proofs.Sample.{computing, element, entry, header_entry, vector_entry, frame_end_entry}
+use Rattle.canonical_file.proofs.Sample.{closing}
 use Rattle.canonical_file.proofs.Sample.{row, header, vector, channel, frame_with, frame_of_channels, frame}
 
 -- these entries stand
@@ -79,11 +80,11 @@ commented name bytes =
 
 later : Frame
 unfolding computing commented
-later = frame_of_channels (
-    channel "H1:A" 0 (Some 4) (Some 5) ∷ commented "H1:A" (1 ∷ 2 ∷ 3 ∷ 4 ∷ []) ∷ channel "H1:B" 1 (Some 6) (Some 7)
+later =
+    frame_of_channels
+    (channel "H1:A" 0 (Some 4) (Some 5) ∷ commented "H1:A" (1 ∷ 2 ∷ 3 ∷ 4 ∷ []) ∷ channel "H1:B" 1 (Some 6) (Some 7)
     ∷ commented "H1:B" (5 ∷ 6 ∷ 7 ∷ 8 ∷ []) ∷ channel "H1:C" 2 (Some 8) None ∷ commented "H1:C" (9 ∷ 10 ∷ 11 ∷ 12 ∷ [])
-    ∷ []
-    )
+    ∷ [])
 
 later_as_used : as_used (frame ∷ later ∷ []) ≡ frame ∷ frame ∷ []
 unfolding computing later

@@ -1,5 +1,5 @@
 -- The graphs of frames, row by row.
-use Rattle.std.proofs.Common.{◌≡◌, ℕ, zero, suc, List, [], ◌∷◌, Option, map, filter_map, get_or, refl, ap}
+use Rattle.std.proofs.Common.{◌≡◌, ℕ, zero, suc, List, [], ◌∷◌, map, filter_map, get_or, refl}
 use Rattle.rooted_graph.specs.Rooted.{links_of}
 use Rattle.rooted_graph.specs.BreadthOrder.{number_of}
 use Rattle.rooted_graph.specs.InOrder.{renumbered, graph_in_order}
@@ -7,7 +7,8 @@ use Rattle.frame_content.specs.Frames.{Frame, no_row, row_at}
 use Rattle.canonical_file.specs.Ordered.{row_links, frame_graph, row_in, ordered}
 
 -- an element of a mapped list, past its end too
-get_or-map_any : {A B : Type 0} (f : A → B) (xs : List A) (n : ℕ) (d : A) → get_or (map f xs) n (f d) ≡ f (get_or xs n d)
+pub get_or-map_any : {A B : Type 0} (f : A → B) (xs : List A) (n : ℕ) (d : A)
+    → get_or (map f xs) n (f d) ≡ f (get_or xs n d)
 get_or-map_any f [] n d = refl
 get_or-map_any f (x ∷ xs) zero d = refl
 get_or-map_any f (x ∷ xs) (suc n) d = get_or-map_any f xs n d
@@ -22,5 +23,6 @@ links-ordered : (f : Frame) (s ns : List ℕ)
 links-ordered f s [] = refl
 links-ordered f s (n ∷ ns) = λ i. map (renumbered s) (links_of-row f n i) ∷ links-ordered f s ns i
 
-pub graph-ordered : (f : Frame) (s : List ℕ) → graph_in_order (frame_graph f).graph s ≡ (frame_graph (ordered f s)).graph
+pub graph-ordered : (f : Frame) (s : List ℕ)
+    → graph_in_order (frame_graph f).graph s ≡ (frame_graph (ordered f s)).graph
 graph-ordered f s = λ i. record { links = links-ordered f s s i; roots = filter_map (number_of s) f.roots }

@@ -1,8 +1,7 @@
 -- The channels of a frame in its order, and what a contents table lists of them.
-use Rattle.std.proofs.Common.{◌≡◌, ℕ, ◌+◌, ◌<◌, ◌≤◌, ◌⊎◌, inl, inr, true, ◌||◌, Option, Some, None, List, [], ◌∷◌, map}
-use Rattle.std.proofs.Common.{filter_map, length, get_or, take, nat_eq, refl, sym, ap, ◌∙◌, subst, arith, All}
+use Rattle.std.proofs.Common.{◌≡◌, ℕ, ◌<◌, ◌≤◌, ◌⊎◌, inl, inr, true, Option, Some, None, List, [], ◌∷◌, map}
+use Rattle.std.proofs.Common.{filter_map, length, get_or, nat_eq, refl, sym, ap, ◌∙◌, subst, arith, All}
 use Rattle.std.specs.Prelude.{slice_get, Contains}
-use Rattle.std.specs.Cmp.{nat_eq_equiv}
 use Rattle.std.specs.List.{AllByRecursion, IsDistinct, cons_option, flat_map}
 use Rattle.std.specs.Option.{option_map}
 use Rattle.std.proofs.lemmas.Bool.{or_cases, cases_lt}
@@ -11,8 +10,7 @@ use Rattle.std.proofs.lemmas.List.Elements.{All-get_or, All-from_recursion}
 use Rattle.std.proofs.lemmas.Map.Steps.{length-le_from_distinct_below}
 use Rattle.std.proofs.lemmas.Option.{none-some, slice_get_within, get_or_from_slice_get}
 use Rattle.rooted_graph.specs.Rooted.{Rooted}
-use Rattle.rooted_graph.specs.BreadthOrder.{has, number_of, targets, roots_and_targets, first_occurrences, IsBreadthOrder}
-use Rattle.rooted_graph.specs.InOrder.{renumbered}
+use Rattle.rooted_graph.specs.BreadthOrder.{has, number_of, targets, roots_and_targets, IsBreadthOrder}
 use Rattle.rooted_graph.proofs.Firsts.{has-append, has-first_occurrences, first_occurrences_distinct}
 use Rattle.rooted_graph.proofs.Places.{number_has, Contains_from_has}
 use Rattle.rooted_graph.proofs.Targets.{slice_get_from_has, member_of_flat_map, link_to_target}
@@ -21,7 +19,6 @@ use Rattle.frame_content.specs.Labels.{Label}
 use Rattle.frame_content.specs.Frames.{Row, Frame, row_at, label_at, no_row}
 use Rattle.contents_table.specs.declared.kind.Kind.{Kind}
 use Rattle.contents_table.specs.Channels.{structure_of, channels_from, channels, first_channel, name_of, named_channel}
-use Rattle.contents_table.specs.Channels.{named_channels}
 use Rattle.canonical_file.specs.Ordered.{frame_graph, row_in, ordered}
 use Rattle.canonical_file.specs.Renumbered.{IsLinked, HasOneHeader, number_in, renumbered_channel, AreRenumbered}
 use Rattle.canonical_file.proofs.Graphs.{links_of-row}

@@ -1,18 +1,19 @@
 -- The FrameH of a frame in its order, and the first channel of a kind under it.
-use Rattle.std.proofs.Common.{◌≡◌, ℕ, suc, ◌+◌, ◌⊎◌, inl, inr, Bool, true, false, cond, Option, Some, None, List, [], ◌∷◌}
-use Rattle.std.proofs.Common.{position, get_or, nat_eq, refl, sym, ap, ◌∙◌, subst, arith}
+use Rattle.std.proofs.Common.{◌≡◌, ℕ, suc, ◌+◌, ◌⊎◌, inl, inr, Bool, true, false, cond, Option, Some, None, List, []}
+use Rattle.std.proofs.Common.{◌∷◌}
+use Rattle.std.proofs.Common.{position, get_or, nat_eq, refl, sym, ap, ◌∙◌, arith}
 use Rattle.std.specs.Prelude.{option_and_then}
 use Rattle.std.specs.List.{position_from}
 use Rattle.std.specs.Option.{option_map}
 use Rattle.std.proofs.lemmas.Bool.{eq-eqb, ne_eqb, cases_Bool}
 use Rattle.std.proofs.lemmas.Iterator.Adapters.{position_from-zero}
 use Rattle.std.proofs.lemmas.Option.{none-some, same_Some, get_or_from_slice_get}
-use Rattle.rooted_graph.specs.BreadthOrder.{has, number_of, IsBreadthOrder}
+use Rattle.rooted_graph.specs.BreadthOrder.{number_of, IsBreadthOrder}
 use Rattle.rooted_graph.specs.InOrder.{renumbered}
 use Rattle.rooted_graph.proofs.Firsts.{has_from_Contains}
 use Rattle.rooted_graph.proofs.Targets.{slice_get_from_has}
 use Rattle.rooted_graph.proofs.Reached.{has_root}
-use Rattle.frame_content.specs.Frames.{Row, Frame, row_at, no_row}
+use Rattle.frame_content.specs.Frames.{Frame, row_at, no_row}
 use Rattle.contents_table.specs.declared.kind.Kind.{Kind}
 use Rattle.contents_table.specs.Channels.{raw_data, structure_of, is_under_raw_data, head, is_frame_header, header_of}
 use Rattle.contents_table.specs.Channels.{upper, first_channel}

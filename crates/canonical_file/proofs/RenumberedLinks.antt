@@ -1,12 +1,11 @@
 -- Where the plain links of a frame in its order lead: to the numbers of the records to which those of the frame lead.
-use Rattle.std.proofs.Common.{◌≡◌, ℕ, ◌<◌, Bool, true, false, cond, Option, Some, None, IfSome, List, map, length, get_or}
-use Rattle.std.proofs.Common.{refl, sym, ap, ◌∙◌, subst}
-use Rattle.std.specs.Prelude.{slice_get, option_and_then, ⊤}
+use Rattle.std.proofs.Common.{◌≡◌, ℕ, Bool, true, false, cond, Option, Some, None, IfSome, List}
+use Rattle.std.proofs.Common.{refl, sym, ap, ◌∙◌}
+use Rattle.std.specs.Prelude.{slice_get, option_and_then}
 use Rattle.std.specs.Option.{option_map}
 use Rattle.std.specs.Str.{bytes_eq}
 use Rattle.std.proofs.lemmas.List.{get_or-map}
-use Rattle.std.proofs.lemmas.Option.{none-some, same_Some, slice_get-map}
-use Rattle.rooted_graph.specs.Rooted.{links_of}
+use Rattle.std.proofs.lemmas.Option.{slice_get-map}
 use Rattle.rooted_graph.specs.BreadthOrder.{has, number_of, IsBreadthOrder}
 use Rattle.rooted_graph.specs.InOrder.{renumbered}
 use Rattle.rooted_graph.proofs.Places.{number_has, number_at}
@@ -110,9 +109,10 @@ target-in f s o name n (Some field) there =
 -- ---- heads, and the next channel
 
 -- the head of a list under a record that is found
-pub head-in_order : (f : Frame) (s : List ℕ) → IsBreadthOrder (frame_graph f).graph s → (name : List ℕ) (found : Option ℕ)
-    → AreIn s found
-    → option_and_then (head (ordered f s) name) (renumbered s found) ≡ renumbered s (option_and_then (head f name) found)
+pub head-in_order : (f : Frame) (s : List ℕ) → IsBreadthOrder (frame_graph f).graph s → (name : List ℕ)
+    (found : Option ℕ) → AreIn s found
+    → option_and_then (head (ordered f s) name) (renumbered s found)
+    ≡ renumbered s (option_and_then (head f name) found)
 head-in_order f s o name None there = refl
 head-in_order f s o name (Some n) there = numbered (number_has s n there)
   where
@@ -120,7 +120,8 @@ head-in_order f s o name (Some n) there = numbered (number_has s n there)
         → option_and_then (head (ordered f s) name) (number_of s n) ≡ renumbered s (head f name n)
     numbered (k, number) =
         ap (option_and_then (head (ordered f s) name)) number
-        ∙ ap (λ (l : Label). target (ordered f s) name k (head_field name l.entry.elements)) (label-in_order f s n k number)
+        ∙ ap (λ (l : Label). target (ordered f s) name k (head_field name l.entry.elements))
+        (label-in_order f s n k number)
         ∙ target-in_order f s o name n k (head_field name (label_at f n).entry.elements) there number
 
 pub head-in : (f : Frame) (s : List ℕ) → IsBreadthOrder (frame_graph f).graph s → (name : List ℕ) (found : Option ℕ)

@@ -81,7 +81,7 @@ kind-places f s places own o linked one are built kind =
     ap (fold (with_named kind places) built) ((are-renumbered f s o linked one).names_are kind)
     ∙ named-places f s places own kind (channels f kind) built are (channels-in f s o one kind)
 
-all-kinds : (g h : Built → Kind → Built) → ((built : Built) (kind : Kind) → g built kind ≡ h built kind)
+pub all-kinds : (g h : Built → Kind → Built) → ((built : Built) (kind : Kind) → g built kind ≡ h built kind)
     → (kinds : List Kind) (built : Built) → fold g built kinds ≡ fold h built kinds
 all-kinds g h same [] built = refl
 all-kinds g h same (kind ∷ kinds) built =

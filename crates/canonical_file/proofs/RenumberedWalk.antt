@@ -1,12 +1,11 @@
 -- The walk over the channels of a frame in its order: it meets the records that the walk over the frame meets.
 use Rattle.std.proofs.Common.{◌≡◌, ℕ, zero, suc, ◌+◌, ◌<◌, ◌≤◌, ◌⊎◌, inl, inr, Bool, true, false, ◌||◌, cond, Option}
-use Rattle.std.proofs.Common.{Some, None, List, [], ◌∷◌, map, length, get_or, nat_eq, refl, sym, ap, ◌∙◌, subst, arith}
+use Rattle.std.proofs.Common.{Some, None, List, [], ◌∷◌, map, length, get_or, nat_eq, refl, sym, ap, ◌∙◌, arith}
 use Rattle.std.specs.Prelude.{unwrap_or}
 use Rattle.std.specs.Cmp.{nat_eq_equiv}
 use Rattle.std.specs.List.{AllByRecursion, IsDistinct}
 use Rattle.std.proofs.lemmas.Bool.{eqb-true, eq-eqb, ne_eqb, cases_eq, cases_Bool, or_cases, or_parts, cond-true}
 use Rattle.std.proofs.lemmas.Bool.{cond-false, true≢false}
-use Rattle.std.proofs.lemmas.List.{length-map}
 use Rattle.std.proofs.lemmas.Map.Made.{length-le_from_is_member}
 use Rattle.rooted_graph.specs.BreadthOrder.{has, number_of, IsBreadthOrder}
 use Rattle.rooted_graph.specs.InOrder.{renumbered}

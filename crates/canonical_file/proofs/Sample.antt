@@ -46,41 +46,36 @@ check_sum = element "chkSum" "INT_4U" ∷ []
 
 unfoldable pub header_entry : Entry
 header_entry =
-    entry 3 "FrameH" (
-    element "name" "STRING" ∷ element "run" "INT_4S" ∷ element "frame" "INT_4U" ∷ element "GTimeS" "INT_4U"
+    entry 3 "FrameH"
+    (element "name" "STRING" ∷ element "run" "INT_4S" ∷ element "frame" "INT_4U" ∷ element "GTimeS" "INT_4U"
     ∷ element "GTimeN" "INT_4U" ∷ element "dt" "REAL_8" ∷ element "rawData" "PTR_STRUCT(FrRawData *)"
     ∷ element "procData" "PTR_STRUCT(FrProcData *)" ∷ element "simData" "PTR_STRUCT(FrSimData *)"
-    ∷ element "detectProc" "PTR_STRUCT(FrDetector *)" ∷ check_sum
-    )
+    ∷ element "detectProc" "PTR_STRUCT(FrDetector *)" ∷ check_sum)
 
 unfoldable pub raw_entry : Entry
 raw_entry =
-    entry 4 "FrRawData" (
-    element "name" "STRING" ∷ element "firstAdc" "PTR_STRUCT(FrAdcData *)" ∷ check_sum
-    )
+    entry 4 "FrRawData"
+    (element "name" "STRING" ∷ element "firstAdc" "PTR_STRUCT(FrAdcData *)" ∷ check_sum)
 
 unfoldable pub channel_entry : Entry
 channel_entry =
-    entry 5 "FrAdcData" (
-    element "name" "STRING" ∷ element "channelNumber" "INT_4U" ∷ element "sampleRate" "REAL_8"
-    ∷ element "data" "PTR_STRUCT(FrVect *)" ∷ element "next" "PTR_STRUCT(FrAdcData *)" ∷ check_sum
-    )
+    entry 5 "FrAdcData"
+    (element "name" "STRING" ∷ element "channelNumber" "INT_4U" ∷ element "sampleRate" "REAL_8"
+    ∷ element "data" "PTR_STRUCT(FrVect *)" ∷ element "next" "PTR_STRUCT(FrAdcData *)" ∷ check_sum)
 
 unfoldable pub vector_entry : Entry
 vector_entry =
-    entry 7 "FrVect" (
-    element "name" "STRING" ∷ element "compress" "INT_2U" ∷ element "type" "INT_2U" ∷ element "nData" "INT_8U"
+    entry 7 "FrVect"
+    (element "name" "STRING" ∷ element "compress" "INT_2U" ∷ element "type" "INT_2U" ∷ element "nData" "INT_8U"
     ∷ element "nBytes" "INT_8U" ∷ element "data" "CHAR[nBytes]" ∷ element "nDim" "INT_4U"
     ∷ element "nx" "INT_8U[nDim]" ∷ element "dx" "REAL_8[nDim]" ∷ element "startX" "REAL_8[nDim]"
-    ∷ element "unitX" "STRING[nDim]" ∷ element "unitY" "STRING" ∷ element "next" "PTR_STRUCT(FrVect *)" ∷ check_sum
-    )
+    ∷ element "unitX" "STRING[nDim]" ∷ element "unitY" "STRING" ∷ element "next" "PTR_STRUCT(FrVect *)" ∷ check_sum)
 
 unfoldable pub detector_entry : Entry
 detector_entry =
-    entry 8 "FrDetector" (
-    element "name" "STRING" ∷ element "prefix" "CHAR[2]" ∷ element "longitude" "REAL_8" ∷ element "latitude" "REAL_8"
-    ∷ element "next" "PTR_STRUCT(FrDetector *)" ∷ check_sum
-    )
+    entry 8 "FrDetector"
+    (element "name" "STRING" ∷ element "prefix" "CHAR[2]" ∷ element "longitude" "REAL_8" ∷ element "latitude" "REAL_8"
+    ∷ element "next" "PTR_STRUCT(FrDetector *)" ∷ check_sum)
 
 unfoldable pub frame_end_entry : Entry
 frame_end_entry = entry 9 "FrEndOfFrame" (element "run" "INT_4S" ∷ element "frame" "INT_4U" ∷ check_sum)
@@ -98,9 +93,8 @@ table_entry = entry 10 "FrTOC" (table_elements check_sum)
 
 unfoldable pub file_end_entry : Entry
 file_end_entry =
-    entry 11 "FrEndOfFile" (
-    element "nFrames" "INT_4U" ∷ element "nBytes" "INT_8U" ∷ element "seekTOC" "INT_8U" ∷ check_sum
-    )
+    entry 11 "FrEndOfFile"
+    (element "nFrames" "INT_4U" ∷ element "nBytes" "INT_8U" ∷ element "seekTOC" "INT_8U" ∷ check_sum)
 
 unfoldable pub end_alone : Closing
 end_alone = record { end = file_end_entry; table = None }
@@ -122,19 +116,19 @@ one = 0x3ff0000000000000
 
 unfoldable pub header : Row
 header =
-    row header_entry (
-    value.Text (codes "H1") ∷ value.Num 1 ∷ value.Num 0 ∷ value.Num 1000000000 ∷ value.Num 0 ∷ value.Num one ∷ null
-    ∷ null ∷ null ∷ null ∷ value.Num 0 ∷ []
-    ) (Some 1 ∷ None ∷ None ∷ Some 2 ∷ [])
+    row header_entry
+    (value.Text (codes "H1") ∷ value.Num 1 ∷ value.Num 0 ∷ value.Num 1000000000 ∷ value.Num 0 ∷ value.Num one ∷ null
+    ∷ null ∷ null ∷ null ∷ value.Num 0 ∷ [])
+    (Some 1 ∷ None ∷ None ∷ Some 2 ∷ [])
 
 unfoldable pub raw_data : Row
 raw_data = row raw_entry (value.Text (codes "raw") ∷ null ∷ value.Num 0 ∷ []) (Some 3 ∷ [])
 
 unfoldable pub detector : Row
 detector =
-    row detector_entry (
-    value.Text (codes "LHO_4k") ∷ value.Bytes (codes "H1") ∷ value.Num 0 ∷ value.Num 0 ∷ null ∷ value.Num 0 ∷ []
-    ) (None ∷ [])
+    row detector_entry
+    (value.Text (codes "LHO_4k") ∷ value.Bytes (codes "H1") ∷ value.Num 0 ∷ value.Num 0 ∷ null ∷ value.Num 0 ∷ [])
+    (None ∷ [])
 
 -- a channel of this name and number, with the records of its vector and of the next channel
 unfoldable pub channel : String → ℕ → Option ℕ → Option ℕ → Row
@@ -145,11 +139,11 @@ channel name n vector next =
 -- a vector of this name and four bytes of data
 unfoldable pub vector : String → List ℕ → Row
 vector name bytes =
-    row vector_entry (
-    value.Text (codes name) ∷ value.Num 0 ∷ value.Num 4 ∷ value.Num 1 ∷ value.Num 4 ∷ value.Bytes bytes ∷ value.Num 1
+    row vector_entry
+    (value.Text (codes name) ∷ value.Num 0 ∷ value.Num 4 ∷ value.Num 1 ∷ value.Num 4 ∷ value.Bytes bytes ∷ value.Num 1
     ∷ value.Nums (1 ∷ []) ∷ value.Nums (one ∷ []) ∷ value.Nums (0 ∷ []) ∷ value.Texts (codes "s" ∷ [])
-    ∷ value.Text [] ∷ null ∷ value.Num 0 ∷ []
-    ) (None ∷ [])
+    ∷ value.Text [] ∷ null ∷ value.Num 0 ∷ [])
+    (None ∷ [])
 
 -- ---- frames
 
@@ -168,11 +162,10 @@ frame_of_channels rows = frame_with (header ∷ raw_data ∷ detector ∷ rows)
 -- three channels, each with a vector of its own
 unfoldable pub frame : Frame
 frame =
-    frame_of_channels (
-    channel "H1:A" 0 (Some 4) (Some 5) ∷ vector "H1:A" (1 ∷ 2 ∷ 3 ∷ 4 ∷ []) ∷ channel "H1:B" 1 (Some 6) (Some 7)
+    frame_of_channels
+    (channel "H1:A" 0 (Some 4) (Some 5) ∷ vector "H1:A" (1 ∷ 2 ∷ 3 ∷ 4 ∷ []) ∷ channel "H1:B" 1 (Some 6) (Some 7)
     ∷ vector "H1:B" (5 ∷ 6 ∷ 7 ∷ 8 ∷ []) ∷ channel "H1:C" 2 (Some 8) None ∷ vector "H1:C" (9 ∷ 10 ∷ 11 ∷ 12 ∷ [])
-    ∷ []
-    )
+    ∷ [])
 
 -- what the examples compute by: each names this one on its line
 unfoldable pub computing : Type 0

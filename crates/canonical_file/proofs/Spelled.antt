@@ -1,12 +1,11 @@
 -- The bytes of values are what is written of them, and nothing else is.
-use Rattle.std.proofs.Common.{◌≡◌, ℕ, ◌+◌, ◌^◌, ◌<◌, List, [], ◌∷◌, ◌++◌, length, map, flat_map, All, refl, sym, ap}
+use Rattle.std.proofs.Common.{◌≡◌, ℕ, ◌+◌, List, [], ◌∷◌, ◌++◌, length, map, flat_map, All, refl, sym, ap}
 use Rattle.std.proofs.Common.{◌∙◌, subst, arith}
 use Rattle.std.specs.List.{AllZip, AllByRecursion}
 use Rattle.std.proofs.lemmas.List.Elements.{All-head, All-tail, All-nil, All-cons}
 use Rattle.scalar_types.specs.declared.Width.{Width}
 use Rattle.scalar_types.specs.declared.Width.TheVariants.{One, Two, Four, Eight}
 use Rattle.scalar_types.specs.declared.Order.TheVariants.{Little}
-use Rattle.scalar_types.specs.Number.{size_of}
 use Rattle.scalar_types.proofs.NumberBytes.{bytes_of-length, number-bytes_of, bytes_of-number}
 use Rattle.type_text.specs.declared.types.Link.{Link as StructLink}
 use Rattle.record_values.specs.declared.values.Value.{Value}
@@ -30,7 +29,8 @@ number-spelled : (width : Width) (n : ℕ) → FitsWidth width n → IsNumber Li
 number-spelled width n fits =
     record { size = bytes_of-length Little width n; value = number-bytes_of Little width n fits }
 
-pair-spelled : (width : Width) (pair : ℕ × ℕ) → PairFitsWidth width pair → IsPair Little width pair (pair_bytes width pair)
+pair-spelled : (width : Width) (pair : ℕ × ℕ) → PairFitsWidth width pair
+    → IsPair Little width pair (pair_bytes width pair)
 pair-spelled width pair fits = record {
   front = number_bytes width pair.0;
   back = number_bytes width pair.1;
@@ -76,7 +76,8 @@ single-spelled form v fits range = absurd fits
 numbers-spelled : (width : Width) (n : ℕ) (xs : List ℕ) → (length xs ≡ n) × All (FitsWidth width) xs
     → AreCounted (IsNumber Little width) n xs (flat_map (number_bytes width) xs)
 numbers-spelled width n xs fits =
-    counted-spelled (IsNumber Little width) (FitsWidth width) (number_bytes width) (number-spelled width) n xs fits.0 fits.1
+    counted-spelled (IsNumber Little width) (FitsWidth width) (number_bytes width) (number-spelled width) n xs
+    fits.0 fits.1
 
 listed-spelled : (form : Form) (n : ℕ) (v : Value) → FitsListed form n v → IsInRange v
     → IsListedBy (IsClosedText Little) Little form n v (value_bytes form v)
@@ -86,7 +87,8 @@ listed-spelled (Number Two) n (value.Nums xs) fits range = numbers-spelled Two n
 listed-spelled (Number Four) n (value.Nums xs) fits range = numbers-spelled Four n xs fits
 listed-spelled (Number Eight) n (value.Nums xs) fits range = numbers-spelled Eight n xs fits
 listed-spelled (Pair width) n (value.Pairs xs) fits range =
-    counted-spelled (IsPair Little width) (PairFitsWidth width) (pair_bytes width) (pair-spelled width) n xs fits.0 fits.1
+    counted-spelled (IsPair Little width) (PairFitsWidth width) (pair_bytes width) (pair-spelled width) n xs
+    fits.0 fits.1
 listed-spelled Text n (value.Texts xs) fits range =
     counted-spelled (IsClosedText Little) IsShortText text_bytes text-spelled n xs fits.0 fits.1
 listed-spelled Link n (value.Links xs) fits range =
@@ -126,7 +128,7 @@ number-is : (width : Width) (n : ℕ) (bytes : List ℕ) → AreBytes bytes → 
 number-is width n bytes all h =
     sym (bytes_of-number Little width bytes all h.size) ∙ ap (number_bytes width) h.value
 
-parts : {X : Type 0} (P : X → Type 0) (xs ys : List X) → All P (xs ++ ys) → All P xs × All P ys
+pub parts : {X : Type 0} (P : X → Type 0) (xs ys : List X) → All P (xs ++ ys) → All P xs × All P ys
 parts P [] ys all = (All-nil P, all)
 parts P (x ∷ xs) ys all =
     let rest = parts P xs ys (All-tail P x (xs ++ ys) all) in
@@ -152,7 +154,8 @@ link-is : (link : StructLink) (bytes : List ℕ) → AreBytes bytes → IsLink L
 link-is link bytes all h =
     let both = parts_of bytes h.front h.back h.split all in
     h.split
-    ∙ (λ i. number-is Two link.class h.front both.0 h.class i ++ number-is Four link.instance h.back both.1 h.instance i)
+    ∙ (λ i. number-is Two link.class h.front both.0 h.class i
+    ++ number-is Four link.instance h.back both.1 h.instance i)
 
 items-is : {X : Type 0} (R : X → List ℕ → Type 0) (f : X → List ℕ)
     → ((x : X) (bytes : List ℕ) → AreBytes bytes → R x bytes → bytes ≡ f x) → (xs : List X) (bytes : List ℕ)

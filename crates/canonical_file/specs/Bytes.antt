@@ -1,7 +1,7 @@
--- The one spelling that a canonical file has for values, bodies, structures and entries: numbers in little-endian order,
--- each text closed by its zero byte, nothing after the fields of a record, and four zero bytes after those of a structure
--- of the dictionary (LIGO-T970130 v8: data types, STRING, PTR_STRUCT, FrSH, FrSE, and the elements that all structures
--- have in common).
+-- The one spelling that a canonical file has for values, bodies, structures and entries: numbers in little-endian
+-- order, each text closed by its zero byte, nothing after the fields of a record, and four zero bytes after those of a
+-- structure of the dictionary (LIGO-T970130 v8: data types, STRING, PTR_STRUCT, FrSH, FrSE, and the elements that all
+-- structures have in common).
 use Rattle.std.specs.Prelude.{ℕ, ◌+◌, List, [], ◌∷◌, ◌++◌, length, flat_map}
 use Rattle.scalar_types.specs.declared.Order.TheVariants.{Little}
 use Rattle.scalar_types.specs.declared.Width.{Width}

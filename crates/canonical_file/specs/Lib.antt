@@ -5,5 +5,8 @@ pub mod Records
 pub mod Written
 pub mod Contents
 pub mod Splices
-pub mod Renumbered
+-- laws
 pub mod FrameLaws
+pub mod Sizes
+pub mod Renumbered
+pub mod SpliceLaws

@@ -1,6 +1,6 @@
 -- Records one after another as they are written: each with the entry of its class before it, where that has not been
 -- written yet.
-use Rattle.std.specs.Prelude.{ℕ, ◌+◌, List, [], ◌∷◌, ◌++◌, length, map, fold, scan, flat_map, unwrap_or, Option, Some, None}
+use Rattle.std.specs.Prelude.{ℕ, ◌+◌, List, [], ◌∷◌, ◌++◌, length, map, fold, scan, unwrap_or, Option, Some, None}
 use Rattle.std.specs.List.{enumerate_from}
 use Rattle.record_values.specs.declared.values.Value.{Value}
 use Rattle.dictionary.specs.declared.entries.Entry.{Entry}

@@ -27,7 +27,8 @@ number_in s n = unwrap_or (number_of s n) 0
 abbrev pub renumbered_channel : List ℕ → List ℕ × ℕ → List ℕ × ℕ
 renumbered_channel s channel = (channel.0, number_in s channel.1)
 
--- The FrameH, the channels and their names are those of the frame by their numbers in the order, and each of them is in it.
+-- The FrameH, the channels and their names are those of the frame by their numbers in the order, and each channel is in
+-- it.
 pub record AreRenumbered (f : Frame) (s : List ℕ) : Type 0 where
   pub header_is : header_of (ordered f s) ≡ renumbered s (header_of f)
   pub channels_are : (kind : Kind) → channels (ordered f s) kind ≡ map (number_in s) (channels f kind)
@@ -35,12 +36,13 @@ pub record AreRenumbered (f : Frame) (s : List ℕ) : Type 0 where
       → named_channels (ordered f s) kind ≡ map (renumbered_channel s) (named_channels f kind)
   pub in_order : (kind : Kind) → All (Contains s) (channels f kind)
 
+-- Frames in their orders have their channels.
 abbrev pub ChannelsAreRenumbered : Type 0
 ChannelsAreRenumbered =
     (f : Frame) (s : List ℕ) → IsBreadthOrder (frame_graph f).graph s → IsLinked f → HasOneHeader f → AreRenumbered f s
 
--- So a contents table lists of the frame in its order, by the places of those records, what it lists of the frame, by the
--- places of the same records.
+-- So a contents table lists of the frame in its order what it lists of the frame, where the places are those of the
+-- same records.
 abbrev pub TablesAreRenumbered : Type 0
 TablesAreRenumbered =
     (f : Frame) (s places own : List ℕ) (built : Built) → IsBreadthOrder (frame_graph f).graph s → IsLinked f

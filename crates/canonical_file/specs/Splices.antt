@@ -50,9 +50,13 @@ NoneClashes closing w (f ∷ fs) = (clash_of closing w.entries f ≡ None) × No
 
 -- ---- frames as they are written
 
--- the frame under these entries: each record has the one of its class, with its comments
+-- the one of these entries that is of the class of an entry, with its own comments
+abbrev pub entry_under : List Entry → Entry → Entry
+entry_under entries e = unwrap_or (entry_of entries e.class) e
+
+-- the frame under these entries: each record has the one of its class
 abbrev pub label_under : List Entry → Label → Label
-label_under entries l = record l { entry = unwrap_or (entry_of entries l.entry.class) l.entry }
+label_under entries l = record l { entry = entry_under entries l.entry }
 
 abbrev pub row_under : List Entry → Row → Row
 row_under entries r = record r { label = label_under entries r.label }
@@ -69,9 +73,9 @@ as_used frames = map (frame_under (after_frames begun frames).entries) frames
 abbrev pub frames_in : List Content → List Frame
 frames_in contents = flat_map (λ (c : Content). c.frames) contents
 
--- The splice of contents: the closing of the first, and the frames of all in order as they are written. There is one where
--- no frame clashes, the closing of the first being used from its end on, and where the frames are no more than a file may
--- have.
+-- The splice of contents: the closing of the first, and the frames of all in order as they are written. There is one
+-- where no frame clashes, the closing of the first being used from its end on, and where the frames are no more than a
+-- file may have.
 pub record IsSplice (first : Content) (others : List Content) (c : Content) : Type 0 where
   pub front : List Frame
   pub back : List Frame

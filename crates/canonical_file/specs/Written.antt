@@ -1,8 +1,7 @@
--- The canonical file of frames in their orders: the header, the part of each frame, and the closing part. Each part is a
--- function of what stands before it and of what it is the part of.
+-- The canonical file of frames in their orders: the header, the part of each frame, and the closing part. Each part is
+-- a function of what stands before it and of the frame or the closing.
 use Rattle.std.specs.Prelude.{ℕ, zero, suc, ◌+◌, if◌then◌else◌, List, [], ◌∷◌, ◌++◌, length, fold, scan, flat_map}
-use Rattle.std.specs.Prelude.{nat_le, codes}
-use Rattle.std.specs.Prelude.{slice_index_or}
+use Rattle.std.specs.Prelude.{nat_le, codes, slice_index_or}
 use Rattle.std.specs.Option.{option_map_or}
 use Rattle.frame_head.specs.Header.{header_bytes}
 use Rattle.record_values.specs.declared.values.Value.{Value}
@@ -44,8 +43,8 @@ with_frame_at places f built =
 
 -- ---- the parts of frames
 
--- What stands in a file so far, as far as it decides what comes after: how many bytes, the entries in their order, what a
--- contents table will list, and how many frames.
+-- What stands in a file so far, as far as it decides what comes after: how many bytes, the entries in their order, what
+-- a contents table will list, and how many frames.
 pub record Written : Type 0 where
   pub size : ℕ
   pub entries : List Entry
@@ -127,6 +126,10 @@ end_bytes e frames bytes seek = record_bytes (record {
 abbrev pub end_size : Written → Entry → ℕ
 end_size w e = length (new_entry w.entries e) + length (end_bytes e 0 0 0)
 
+-- the bytes of the file that ends with them
+abbrev pub closed_size : Written → Entry → ℕ
+closed_size w e = w.size + end_size w e
+
 -- the way back over what comes after the table's record and over the record itself, or 0 where there is none
 abbrev pub way_back : ℕ → ℕ → ℕ
 way_back behind zero = 0
@@ -135,11 +138,11 @@ way_back behind (suc length) = suc length + behind
 -- FrEndOfFile's entry and record, where the table's record has so many bytes
 abbrev pub end_part : Written → ℕ → Entry → List ℕ
 end_part w table e =
-    new_entry w.entries e ++ end_bytes e w.frames (w.size + end_size w e) (way_back (end_size w e) table)
+    new_entry w.entries e ++ end_bytes e w.frames (closed_size w e) (way_back (end_size w e) table)
 
 -- ---- the file
 
--- The closing part: FrTOC's entry and record, then those of FrEndOfFile. An entry that stands already does not stand again.
+-- The closing part: FrTOC's entry and record, then those of FrEndOfFile. An entry that stands already is not repeated.
 abbrev pub closing_part : Written → Closing → List ℕ
 closing_part w c =
     piece_bytes (table_piece w c)

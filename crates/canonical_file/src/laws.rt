@@ -4,6 +4,9 @@
 ghost use Rattle.canonical_file.specs.FrameLaws.{EqualFramesHaveOneOrder, FramesInOrderAreEqual};
 ghost use Rattle.canonical_file.specs.FrameLaws.{WrittenBodiesAreOne, FittingBodiesAreWritten};
 ghost use Rattle.canonical_file.specs.FrameLaws.{EqualContentsHaveOneFile, EqualFramesHaveOneHead};
+ghost use Rattle.canonical_file.specs.Sizes.{HeadsHaveTheirSize, FilesHaveTheirSize};
+ghost use Rattle.canonical_file.specs.Sizes.{RecordsStandAtTheirPlaces};
+ghost use Rattle.canonical_file.specs.SpliceLaws.{SplicesAreWritten, SplicesAreBegun};
 ghost use Rattle.canonical_file.specs.Renumbered.{ChannelsAreRenumbered, TablesAreRenumbered};
 
 /// Equal frames are one frame in their breadth-first orders.
@@ -33,4 +36,18 @@ pub fn canonical_files_are_one()
 pub fn channels_are_renumbered()
     ensures channels { ChannelsAreRenumbered }
     ensures tables { TablesAreRenumbered }
+{}
+
+/// What is told of sizes and places is so: how many bytes stand, how many the whole file has, and where each
+/// record of a frame stands.
+pub fn sizes_are_told()
+    ensures heads { HeadsHaveTheirSize }
+    ensures files { FilesHaveTheirSize }
+    ensures places { RecordsStandAtTheirPlaces }
+{}
+
+/// The frames of a splice are written under the entries that are used first, whichever they have themselves.
+pub fn splices_are_written()
+    ensures whole { SplicesAreWritten }
+    ensures begun { SplicesAreBegun }
 {}

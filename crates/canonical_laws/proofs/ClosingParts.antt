@@ -16,8 +16,10 @@ use Rattle.file_grammar.specs.MayStand.{frames_limit, Stand}
 use Rattle.item_reader.proofs.Growing.{entry_of-new}
 use Rattle.canonical_file.specs.declared.closing.Closing.{Closing}
 use Rattle.canonical_file.specs.Bytes.{entry_bytes}
-use Rattle.canonical_file.specs.Records.{Record, record_bytes, unless_held, new_entry, added_by, with_entry, piece_bytes}
-use Rattle.canonical_file.specs.Written.{Written, table_record, table_piece, after_table, end_bytes, end_size, way_back}
+use Rattle.canonical_file.specs.Records.{Record, record_bytes, unless_held, new_entry, added_by, with_entry}
+use Rattle.canonical_file.specs.Records.{piece_bytes}
+use Rattle.canonical_file.specs.Written.{Written, table_record, table_piece, after_table, end_bytes, end_size}
+use Rattle.canonical_file.specs.Written.{way_back}
 use Rattle.canonical_file.specs.Written.{end_part, closing_part}
 use Rattle.canonical_laws.specs.Writable.{IsWritableFileEnd, IsWritableTable}
 use Rattle.canonical_laws.proofs.Holding.{Holds, holds-left, holds-right, holds-at}
@@ -269,7 +271,8 @@ has-table dictionary file w b e t may =
       no_table = may.between.no_table;
       short = λ is. leb-true (length (record_bytes (table_of w t))) record_limit is;
       limit = may.limit;
-      holds = subst (Holds file b.place) (table-bytes w b e t may.tells class) (holds-left file b.place piece behind may.holds);
+      holds = subst (Holds file b.place) (table-bytes w b e t may.tells class)
+          (holds-left file b.place piece behind may.holds);
       stands = stand.0.1.described.stands;
       place = refl;
       other = λ two. omega (arith, two);

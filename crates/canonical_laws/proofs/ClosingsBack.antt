@@ -1,5 +1,6 @@
 -- The closing of a canonical file, by its entries.
-use Rattle.std.proofs.Common.{◌≡◌, ℕ, Bool, true, false, cond, Option, Some, None, List, [], ◌∷◌, ◌++◌, codes, refl, sym, ap}
+use Rattle.std.proofs.Common.{◌≡◌, ℕ, Bool, true, false, cond, Option, Some, None, List, [], ◌∷◌, ◌++◌, codes, refl}
+use Rattle.std.proofs.Common.{sym, ap}
 use Rattle.std.proofs.Common.{◌∙◌, append_assoc}
 use Rattle.std.specs.Prelude.{option_and_then, IfSome}
 use Rattle.std.specs.Option.{option_map, option_map_or, option_or}
@@ -76,7 +77,8 @@ closing-back dictionary es e (Some t) all end table_is =
     let title : t.name ≡ codes "FrTOC" = (names-by t.name).0 table_is.kind in
     let no_end = none-named es (codes "FrEndOfFile") all.kinds refl in
     let no_table = none-named es (codes "FrTOC") all.kinds refl in
-    let new : entry_of es t.class ≡ None = not-needed dictionary es t all table_is.held (ap is_frame_kind table_is.kind) in
+    let new : entry_of es t.class ≡ None =
+    not-needed dictionary es t all table_is.held (ap is_frame_kind table_is.kind) in
     let whole : List Entry = es ++ t ∷ [] ++ e ∷ [] in
     let entries : with_entry es t ++ e ∷ [] ≡ whole = ap (λ o. added_by o es t ++ e ∷ []) new in
     let other : bytes_eq (codes "FrEndOfFile") t.name ≡ false = ap (bytes_eq (codes "FrEndOfFile")) title in

@@ -1,5 +1,5 @@
--- What the end of a file tells: its values fit its layout, take as many bytes whatever they are, and are read under their
--- names.
+-- What the end of a file tells: its values fit its layout, take as many bytes whatever they are, and are read under
+-- their names.
 use Rattle.std.proofs.Common.{◌≡◌, ℕ, ◌+◌, ◌^◌, ◌<◌, ◌≤◌, ◌⊎◌, inl, inr, Bool, true, false, ◌&&◌, cond, eqb, Option}
 use Rattle.std.proofs.Common.{Some, None, List, [], ◌∷◌, ◌++◌, length, codes, refl, sym, ap, ◌∙◌, subst, arith}
 use Rattle.std.proofs.Common.{length-append}
@@ -27,13 +27,15 @@ use Rattle.layout_plan.specs.declared.fields.Form.TheVariants.{Number, Pair, Tex
 use Rattle.layout_plan.specs.Layout.{form_of, has_no_dims}
 use Rattle.layout_plan.specs.Body.{number_of}
 use Rattle.record_writer.specs.Fit.{FitsSingle}
-use Rattle.file_grammar.specs.Closing.{is_single, is_any, is_count, is_size, has_named, closes, field_named, number_named}
+use Rattle.file_grammar.specs.Closing.{is_single, is_any, is_count, is_size, has_named, closes, field_named}
+use Rattle.file_grammar.specs.Closing.{number_named}
 use Rattle.contents_table.specs.Told.{blank_single}
 use Rattle.contents_table.proofs.FirstNamed.{named-at, number-is}
 use Rattle.canonical_file.specs.Ranges.{IsInRange}
 use Rattle.canonical_file.specs.Bytes.{number_bytes}
 use Rattle.canonical_file.specs.Written.{end_told}
-use Rattle.canonical_laws.proofs.PlainFields.{form_by, value_at, plain_values, value-found, EachValue, InRange, value_size}
+use Rattle.canonical_laws.proofs.PlainFields.{form_by, value_at, plain_values, value-found, EachValue, InRange}
+use Rattle.canonical_laws.proofs.PlainFields.{value_size}
 use Rattle.canonical_laws.proofs.PlainFields.{IsSmall}
 
 -- ---- what the layout has

@@ -28,10 +28,12 @@ use Rattle.canonical_file.specs.Records.{Record, entry_fields}
 use Rattle.canonical_file.specs.Written.{end_told, end_bytes}
 use Rattle.canonical_laws.specs.Writable.{IsWritable, IsWritableFileEnd}
 use Rattle.canonical_laws.proofs.Holding.{Holds, holds-left, holds-right, length-structure}
-use Rattle.canonical_laws.proofs.WrittenRecords.{record_structure, record-size, record-stands, record-reads, reading_back}
+use Rattle.canonical_laws.proofs.WrittenRecords.{record_structure, record-size, record-stands, record-reads}
+use Rattle.canonical_laws.proofs.WrittenRecords.{reading_back}
 use Rattle.canonical_laws.proofs.WrittenRecords.{kind-held, past_entry, entry_item, entry-after}
 use Rattle.canonical_laws.proofs.WrittenRecords.{entry-may_stand}
-use Rattle.canonical_laws.proofs.PlainFields.{plain_fields, layout-plain, plain_values, values-plain, fits-plain, range-plain}
+use Rattle.canonical_laws.proofs.PlainFields.{plain_fields, layout-plain, plain_values, values-plain, fits-plain}
+use Rattle.canonical_laws.proofs.PlainFields.{range-plain}
 use Rattle.canonical_laws.proofs.PlainFields.{size-plain, same_size-plain}
 use Rattle.canonical_laws.proofs.FileEndTold.{closes-parts, end-fits, end-range, end-small, same-size, end-told}
 use Rattle.canonical_laws.proofs.FrameEnds.{frames_from}

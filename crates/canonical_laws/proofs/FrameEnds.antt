@@ -1,11 +1,13 @@
 -- The end record of a frame, and the frames that items bring.
-use Rattle.std.proofs.Common.{◌≡◌, ℕ, ◌+◌, ◌<◌, ◌≤◌, false, Option, Some, None, List, [], ◌∷◌, ◌++◌, length, map, refl, sym}
+use Rattle.std.proofs.Common.{◌≡◌, ℕ, ◌+◌, ◌<◌, ◌≤◌, false, Option, Some, None, List, [], ◌∷◌, ◌++◌, length, map, refl}
+use Rattle.std.proofs.Common.{sym}
 use Rattle.std.proofs.Common.{ap, ◌∙◌, subst, append_assoc}
 use Rattle.scalar_types.specs.declared.Order.TheVariants.{Little}
 use Rattle.dictionary.specs.declared.entries.Entry.{Entry}
 use Rattle.dictionary.specs.Dictionary.{entry_of}
 use Rattle.file_grammar.specs.declared.kind.Kind.{Kind}
-use Rattle.file_grammar.specs.declared.kind.Kind.TheVariants.{FrSH, FrSE, FrameH, FrEndOfFrame, FrTOC, FrEndOfFile, Other}
+use Rattle.file_grammar.specs.declared.kind.Kind.TheVariants.{FrSH, FrSE, FrameH, FrEndOfFrame, FrTOC, FrEndOfFile}
+use Rattle.file_grammar.specs.declared.kind.Kind.TheVariants.{Other}
 use Rattle.file_grammar.specs.Structure.{Structure, end_of, record_limit, file_limit}
 use Rattle.file_grammar.specs.Kind.{kind_named, kind_of}
 use Rattle.file_grammar.specs.Record.{weight_of, AreLinked}
@@ -17,7 +19,8 @@ use Rattle.file_content.specs.Stored.{StoredFrame, brought, brought_in, frame_of
 use Rattle.canonical_laws.specs.Writable.{IsWritableEntry, IsWritable}
 use Rattle.canonical_laws.proofs.Holding.{Holds}
 use Rattle.canonical_laws.proofs.WrittenRecords.{record_structure, record-stands, kind-held, IsRowKind}
-use Rattle.canonical_laws.proofs.WrittenRecords.{frame_record, past_entry, record_item, items_by, Agrees, entry-after, past-held}
+use Rattle.canonical_laws.proofs.WrittenRecords.{frame_record, past_entry, record_item, items_by, Agrees, entry-after}
+use Rattle.canonical_laws.proofs.WrittenRecords.{past-held}
 
 -- ---- the end record
 

@@ -1,6 +1,7 @@
--- The records of a frame once its rows stand: they have the classes and instances of the rows, are linked, and read back as
--- the rows.
-use Rattle.std.proofs.Common.{◌≡◌, ℕ, suc, ◌<◌, ◌≤◌, Option, Some, None, List, [], ◌∷◌, length, map, get_or, All, refl, sym}
+-- The records of a frame once its rows stand: they have the classes and instances of the rows, are linked, and read
+-- back as the rows.
+use Rattle.std.proofs.Common.{◌≡◌, ℕ, suc, ◌<◌, ◌≤◌, Option, Some, None, List, [], ◌∷◌, length, map, get_or, All, refl}
+use Rattle.std.proofs.Common.{sym}
 use Rattle.std.proofs.Common.{ap, ◌∙◌, subst, arith, inl, inr}
 use Rattle.std.specs.List.{AllZip}
 use Rattle.std.specs.Option.{option_map_or}
@@ -66,7 +67,8 @@ gone-as dictionary held f b gone = record {
 
 -- each link leads to one of them
 targets : (dictionary held : List Entry) (f : Frame) (b : Before) → Gone dictionary held f b
-    → (links : List (Option ℕ)) → All (IsWithin (length f.rows)) links → All (HasTarget b.frame) (map (new_link f) links)
+    → (links : List (Option ℕ)) → All (IsWithin (length f.rows)) links
+    → All (HasTarget b.frame) (map (new_link f) links)
 targets dictionary held f b gone [] all = All-nil (HasTarget b.frame)
 targets dictionary held f b gone (link ∷ links) all =
     All-cons (HasTarget b.frame) (new_link f link) (map (new_link f) links)

@@ -1,5 +1,6 @@
 -- The parts of frames one after another are those frames of the file.
-use Rattle.std.proofs.Common.{◌≡◌, ℕ, ◌+◌, ◌^◌, ◌<◌, ◌≤◌, List, [], ◌∷◌, ◌++◌, length, map, fold, flat_map, refl, sym, ap}
+use Rattle.std.proofs.Common.{◌≡◌, ℕ, ◌+◌, ◌^◌, ◌<◌, ◌≤◌, List, [], ◌∷◌, ◌++◌, length, map, fold, flat_map, refl, sym}
+use Rattle.std.proofs.Common.{ap}
 use Rattle.std.proofs.Common.{◌∙◌, subst, arith, add-zero, length-append}
 use Rattle.std.specs.List.{AllByRecursion}
 use Rattle.std.proofs.lemmas.List.{map-append}
@@ -47,7 +48,8 @@ read-append file b mid items more stand =
     ∙ map-append (content_frame Little) (frames_from b items) (frames_from mid more)
 
 -- The frames stand, are those of their items, and the state after them tells what stands before the place after them.
-pub record HeadStands (dictionary : List Entry) (file : List ℕ) (w : Written) (b : Before) (fs : List Frame) : Type 0 where
+pub record HeadStands (dictionary : List Entry) (file : List ℕ) (w : Written) (b : Before)
+    (fs : List Frame) : Type 0 where
   pub stand : Stand Little file b (frames_items b fs) (after_all b fs)
   pub frames : read_from b (frames_items b fs) ≡ map as_read fs
   pub between : IsBetween dictionary (after_all b fs)
@@ -88,8 +90,8 @@ head-stands dictionary file w b (f ∷ fs) sound all between tells few_frames fe
     } in
     let place : b.place + length part ≡ next.place = omega (arith, one.place, ap length same) in
     let rest : HeadStands dictionary file state next fs =
-    head-stands dictionary file state next fs sound all.1 one.between told (omega (arith, one.count, few_frames)) few limit
-    (holds-at file (b.place + length part) next.place more place (holds-right file b.place part more h)) in
+    head-stands dictionary file state next fs sound all.1 one.between told (omega (arith, one.count, few_frames)) few
+    limit (holds-at file (b.place + length part) next.place more place (holds-right file b.place part more h)) in
     record {
       stand = stand-append Little file b next (after_all next fs) (frame_items b f) (frames_items next fs) one.stand
           rest.stand;

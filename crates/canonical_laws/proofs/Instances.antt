@@ -1,8 +1,10 @@
 -- The class and instance of a record tell it from the others of its frame: a link leads back to its record.
-use Rattle.std.proofs.Common.{◌≡◌, ℕ, zero, suc, ◌+◌, ◌<◌, ◌≤◌, Bool, true, false, cond, not, eqb, ◌⊎◌, inl, inr, Some, List}
+use Rattle.std.proofs.Common.{◌≡◌, ℕ, zero, suc, ◌+◌, ◌<◌, ◌≤◌, Bool, true, false, cond, not, eqb, ◌⊎◌, inl, inr, Some}
+use Rattle.std.proofs.Common.{List}
 use Rattle.std.proofs.Common.{[], ◌∷◌, length, take, get_or, count_by, position, sym, ap, ◌∙◌, subst, arith, take-take}
 use Rattle.std.specs.List.{position_or_len, prefix_len}
-use Rattle.std.proofs.lemmas.Bool.{cond-true, lt-ltb, eq-eqb, eqb-true, ne_eqb, and_left, and_right, and_from, cases_Bool}
+use Rattle.std.proofs.lemmas.Bool.{cond-true, lt-ltb, eq-eqb, eqb-true, ne_eqb, and_left, and_right, and_from}
+use Rattle.std.proofs.lemmas.Bool.{cases_Bool}
 use Rattle.std.proofs.lemmas.List.Sums.{count_by_more_yes, sum_by-take-le}
 use Rattle.link_graph.specs.declared.nodes.Root.TheVariants.{No}
 use Rattle.link_graph.specs.declared.nodes.Node.{Node}

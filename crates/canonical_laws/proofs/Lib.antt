@@ -40,3 +40,4 @@ pub mod TellingApart
 pub mod FramesCounted
 pub mod Sources
 pub mod KeptContents
+pub mod OpenPrefixes

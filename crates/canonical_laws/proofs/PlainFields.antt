@@ -1,5 +1,6 @@
 -- Layouts without dimensions: their fields, and the values of records that tell some of them.
-use Rattle.std.proofs.Common.{◌≡◌, ℕ, zero, suc, ◌+◌, ◌*◌, ◌≤◌, Bool, true, false, ◌&&◌, Option, Some, None, List, [], ◌∷◌, ◌++◌}
+use Rattle.std.proofs.Common.{◌≡◌, ℕ, zero, suc, ◌+◌, ◌*◌, ◌≤◌, Bool, true, false, ◌&&◌, Option, Some, None, List, []}
+use Rattle.std.proofs.Common.{◌∷◌, ◌++◌}
 use Rattle.std.proofs.Common.{length, refl, ap, ◌∙◌, arith, length-append}
 use Rattle.std.specs.Prelude.{option_and_then, slice_get}
 use Rattle.std.specs.List.{AllZip, AllByRecursion, list_all}
@@ -40,7 +41,8 @@ plain-made : (named : List ℕ → Option Count) (last : Bool) (e : Element) →
 plain-made named last e is = by (last && is_check_sum e) e.ty is
   where
     go : (sum : Bool) (form : Form) (dims : List Dim) → has_no_dims dims ≡ true
-        → option_map {U = Field} (λ counts. record { form = form; counts = counts; is_sum = sum }) (counts_of named dims)
+        → option_map {U = Field} (λ counts. record { form = form; counts = counts; is_sum = sum })
+        (counts_of named dims)
         ≡ Some (record { form = form; counts = []; is_sum = sum })
     go sum form [] none = refl
     go sum form (d ∷ ds) none = absurd (false≢true none)

@@ -1,5 +1,6 @@
 -- A written record reads back as the row that it was written from: its label, and its links.
-use Rattle.std.proofs.Common.{◌≡◌, ℕ, ◌<◌, ◌≤◌, Option, Some, None, List, [], ◌∷◌, length, map, All, refl, ap, ◌∙◌, sym}
+use Rattle.std.proofs.Common.{◌≡◌, ℕ, ◌<◌, ◌≤◌, Option, Some, None, List, [], ◌∷◌, length, map, All, refl, ap, ◌∙◌}
+use Rattle.std.proofs.Common.{sym}
 use Rattle.std.proofs.Common.{arith}
 use Rattle.std.proofs.lemmas.Bool.{cond-false, ne_eqb}
 use Rattle.std.proofs.lemmas.List.{length-map}
@@ -22,7 +23,8 @@ use Rattle.canonical_file.specs.Records.{Record, entry_fields, end_record}
 use Rattle.canonical_laws.specs.Writable.{IsWritable, IsLabel, IsRow, record_at}
 use Rattle.canonical_laws.proofs.Instances.{AreAs, target-found}
 use Rattle.canonical_laws.proofs.LinksWithin.{links-linked, unlinked-linked}
-use Rattle.canonical_laws.proofs.WrittenRecords.{record_body, record_structure, fields-layout, reading_back, record-reads}
+use Rattle.canonical_laws.proofs.WrittenRecords.{record_body, record_structure, fields-layout, reading_back}
+use Rattle.canonical_laws.proofs.WrittenRecords.{record-reads}
 use Rattle.canonical_laws.proofs.WrittenRecords.{values-read}
 
 -- a written record among those of a frame

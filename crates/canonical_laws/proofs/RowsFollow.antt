@@ -1,6 +1,8 @@
 -- The rows of a frame may stand one after another.
-use Rattle.std.proofs.Common.{◌≡◌, ℕ, suc, ◌+◌, ◌^◌, ◌<◌, ◌≤◌, ◌⊎◌, inl, inr, false, Option, Some, None, List, [], ◌∷◌, ◌++◌}
-use Rattle.std.proofs.Common.{length, map, get_or, drop, refl, sym, ap, ◌∙◌, subst, arith, add-one, length-append, length-drop}
+use Rattle.std.proofs.Common.{◌≡◌, ℕ, suc, ◌+◌, ◌^◌, ◌<◌, ◌≤◌, ◌⊎◌, inl, inr, false, Option, Some, None, List, [], ◌∷◌}
+use Rattle.std.proofs.Common.{◌++◌}
+use Rattle.std.proofs.Common.{length, map, get_or, drop, refl, sym, ap, ◌∙◌, subst, arith, add-one, length-append}
+use Rattle.std.proofs.Common.{length-drop}
 use Rattle.std.proofs.Common.{drop-cons}
 use Rattle.std.specs.Prelude.{sum_by}
 use Rattle.std.specs.List.{AllByRecursion, enumerate_from}
@@ -11,7 +13,8 @@ use Rattle.std.proofs.lemmas.List.Sums.{sum_by-cons}
 use Rattle.dictionary.specs.declared.entries.Entry.{Entry}
 use Rattle.dictionary.specs.Dictionary.{entry_of, IsDictionary}
 use Rattle.file_grammar.specs.declared.kind.Kind.{Kind}
-use Rattle.file_grammar.specs.declared.kind.Kind.TheVariants.{FrSH, FrSE, FrameH, FrEndOfFrame, FrTOC, FrEndOfFile, Other}
+use Rattle.file_grammar.specs.declared.kind.Kind.TheVariants.{FrSH, FrSE, FrameH, FrEndOfFrame, FrTOC, FrEndOfFile}
+use Rattle.file_grammar.specs.declared.kind.Kind.TheVariants.{Other}
 use Rattle.file_grammar.specs.Structure.{Structure, record_limit}
 use Rattle.file_grammar.specs.Kind.{kind_of}
 use Rattle.file_grammar.specs.Item.{Before}
@@ -188,7 +191,8 @@ pub record Splits (f : Frame) (n : ℕ) (x : Row) (xs : List Row) : Type 0 where
   pub first : row_at f n ≡ x
   pub others : drop (n + 1) f.rows ≡ xs
 
-pub splits : (f : Frame) (n : ℕ) (x : Row) (xs : List Row) → n ≤ length f.rows → drop n f.rows ≡ x ∷ xs → Splits f n x xs
+pub splits : (f : Frame) (n : ℕ) (x : Row) (xs : List Row) → n ≤ length f.rows → drop n f.rows ≡ x ∷ xs
+    → Splits f n x xs
 splits f n x xs within rest =
     let more : n < length f.rows = omega (arith, length-drop n f.rows, ap length rest, within) in
     let split : row_at f n ∷ drop (suc n) f.rows ≡ x ∷ xs = sym (drop-cons f.rows n no_row more) ∙ rest in
@@ -232,7 +236,8 @@ rows-follow dictionary f n (x ∷ xs) b sound are going rest load few =
     let next : Next dictionary f n b = record { sound = sound; are = are; going = going; more = s.more } in
     let Goes : ℕ → Type 0 = λ m. Going dictionary f m (after_piece b r) in
     let later = rows-follow dictionary f (n + 1) xs (after_piece b r) sound are
-    (subst Goes (sym (add-one n)) (row-more dictionary f n b next)) s.others (omega (arith, load_here, sizes)) few_here in
+    (subst Goes (sym (add-one n)) (row-more dictionary f n b next)) s.others (omega (arith, load_here, sizes))
+    few_here in
     let follows : Follows (row_at f n) = record {
       follow = (
         row-agrees dictionary f n b next,

@@ -17,7 +17,8 @@ use Rattle.canonical_file.specs.Bytes.{entry_bytes}
 use Rattle.canonical_file.specs.Records.{Record, record_bytes}
 use Rattle.canonical_laws.specs.Writable.{IsWritableTable}
 use Rattle.canonical_laws.proofs.Holding.{Holds, holds-left, holds-right, length-structure, stands-held}
-use Rattle.canonical_laws.proofs.WrittenRecords.{record_body, record_structure, record-size, kind-held, past_entry, entry_item}
+use Rattle.canonical_laws.proofs.WrittenRecords.{record_body, record_structure, record-size, kind-held, past_entry}
+use Rattle.canonical_laws.proofs.WrittenRecords.{entry_item}
 use Rattle.canonical_laws.proofs.WrittenRecords.{record_item, entry-after, entry-may_stand}
 use Rattle.canonical_laws.proofs.FrameEnds.{frames_from}
 
@@ -125,7 +126,8 @@ table-stands dictionary false file b r next may =
     )
 
 -- it ends no frame
-pub table-frames : (dictionary : List Entry) (fits : Bool) (b : Before) (r : Record) → IsWritableTable dictionary r.entry
+pub table-frames : (dictionary : List Entry) (fits : Bool) (b : Before) (r : Record)
+    → IsWritableTable dictionary r.entry
     → entry_of b.dictionary r.entry.class ≡ None → class_named b.dictionary r.entry.name ≡ None
     → frames_from b (table_items fits b r) ≡ []
 table-frames dictionary true b r w class name =

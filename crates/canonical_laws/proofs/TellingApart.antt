@@ -1,5 +1,5 @@
--- A file has one content, and a content one canonical file; and that canonical files tell contents follows from that they
--- keep them.
+-- A file has one content, and a content one canonical file; and that canonical files tell contents follows from that
+-- they keep them.
 use Rattle.std.proofs.Common.{◌≡◌, List, [], ◌∷◌, refl, sym, ◌∙◌, subst}
 use Rattle.std.specs.List.{AllZip}
 use Rattle.rooted_graph.proofs.Ends.{same_refl, same_sym, same_trans}

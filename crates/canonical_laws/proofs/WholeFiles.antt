@@ -26,7 +26,8 @@ use Rattle.canonical_laws.proofs.Heads.{Tells, part_bytes, after_all, frames_ite
 use Rattle.canonical_laws.proofs.Heads.{head-stands, size-parts, count-frames}
 use Rattle.canonical_laws.proofs.FrameEntries.{AreNeeded, frames-needed, none-needed, few-needed}
 use Rattle.canonical_laws.proofs.FileEnds.{end-place}
-use Rattle.canonical_laws.proofs.ClosingParts.{past_closing, Closes, past-table, told_bytes, told_seek, file-ends, ends-file}
+use Rattle.canonical_laws.proofs.ClosingParts.{past_closing, Closes, past-table, told_bytes, told_seek, file-ends}
+use Rattle.canonical_laws.proofs.ClosingParts.{ends-file}
 use Rattle.canonical_laws.proofs.ClosingParts.{all_items, after_closing, closing-stands, closing-frames}
 use Rattle.canonical_laws.proofs.ClosingsBack.{closing-back}
 

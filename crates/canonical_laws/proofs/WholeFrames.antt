@@ -1,5 +1,6 @@
 -- What is written of a frame is a frame of the file, and reads back as it was written.
-use Rattle.std.proofs.Common.{◌≡◌, ℕ, ◌+◌, ◌^◌, ◌<◌, ◌≤◌, false, Option, List, [], ◌∷◌, ◌++◌, length, map, refl, sym, ap}
+use Rattle.std.proofs.Common.{◌≡◌, ℕ, ◌+◌, ◌^◌, ◌<◌, ◌≤◌, false, Option, List, [], ◌∷◌, ◌++◌, length, map, refl, sym}
+use Rattle.std.proofs.Common.{ap}
 use Rattle.std.proofs.Common.{Some, ◌∙◌, subst, arith, add-zero, append-nil, length-append}
 use Rattle.std.specs.Prelude.{sum_by}
 use Rattle.std.specs.List.{AllByRecursion}
@@ -13,7 +14,8 @@ use Rattle.file_grammar.specs.MayStand.{frames_limit, Stand}
 use Rattle.item_reader.specs.Roles.{root_of}
 use Rattle.frame_content.specs.Frames.{Frame, label_at}
 use Rattle.canonical_file.specs.Ordered.{class_at}
-use Rattle.canonical_file.specs.Records.{Record, record_bytes, end_record, records_of, new_entry, with_record, entries_after}
+use Rattle.canonical_file.specs.Records.{Record, record_bytes, end_record, records_of, new_entry, with_record}
+use Rattle.canonical_file.specs.Records.{entries_after}
 use Rattle.file_content.specs.Contents.{content_frame}
 use Rattle.canonical_laws.specs.Writable.{IsWritable, IsWritableFrame, size_of_record, as_read}
 use Rattle.canonical_laws.proofs.Holding.{Holds, holds-left, holds-right, holds-at}
@@ -21,12 +23,15 @@ use Rattle.canonical_laws.proofs.WrittenRecords.{record_structure, record-size, 
 use Rattle.canonical_laws.proofs.WrittenRecords.{piece-stands}
 use Rattle.canonical_laws.proofs.RowsBack.{end-back}
 use Rattle.canonical_laws.proofs.AgreeingEntries.{AreIn, agrees-in, added-in, entries-longer}
-use Rattle.canonical_laws.proofs.RecordsInTurn.{stand-append, bytes_of, before_record, after_piece, after_pieces, piece_items}
-use Rattle.canonical_laws.proofs.RecordsInTurn.{items_of, AllFollow, place-after_piece, records-stand, dictionary-after}
+use Rattle.canonical_laws.proofs.RecordsInTurn.{stand-append, bytes_of, before_record, after_piece, after_pieces}
+use Rattle.canonical_laws.proofs.RecordsInTurn.{piece_items}
+use Rattle.canonical_laws.proofs.RecordsInTurn.{items_of, AllFollow, place-after_piece, records-stand}
+use Rattle.canonical_laws.proofs.RecordsInTurn.{dictionary-after}
 use Rattle.canonical_laws.proofs.RecordsInTurn.{load-after, frames-after, place-after, bytes-append, entries-append}
 use Rattle.canonical_laws.proofs.RowsFollow.{stays-added, own-added, Going, records_from, all-records}
 use Rattle.canonical_laws.proofs.RowsFollow.{RowsFollow, rows-follow}
-use Rattle.canonical_laws.proofs.FrameEnds.{MayEnd, with_end, end-stands, frames_from, frames-append, frames-by, row-frames}
+use Rattle.canonical_laws.proofs.FrameEnds.{MayEnd, with_end, end-stands, frames_from, frames-append, frames-by}
+use Rattle.canonical_laws.proofs.FrameEnds.{row-frames}
 use Rattle.canonical_laws.proofs.FrameEnds.{stored_frame, end-frames}
 use Rattle.canonical_laws.proofs.FrameRecords.{nodes_of, Gone, gone-linked, gone-header, gone-back, gone-marked}
 use Rattle.canonical_laws.proofs.RootsByName.{roots-agree}
@@ -250,7 +255,8 @@ frame-stands dictionary file b f may =
     let follows = follow dictionary file b f may in
     let whole : Holds file b.place (front ++ end_bytes b f) = subst (Holds file b.place) (bytes-split b f) may.holds in
     let left : Holds file b.place front = holds-left file b.place front (end_bytes b f) whole in
-    let rows : Stand Little file b (items_of b rs) mid = records-stand file b rs writable follows.follow may.limit left in
+    let rows : Stand Little file b (items_of b rs) mid =
+    records-stand file b rs writable follows.follow may.limit left in
     let own = end-held dictionary file b f may in
     let ends : frames_from mid (piece_items mid e) ≡ stored_frame next (end_structure b f) ∷ [] =
     frames-by o mid e w.writable.entry refl (end-agrees dictionary file b f may)

@@ -16,7 +16,8 @@ use Rattle.file_grammar.specs.Structure.{Structure, size_of, record_limit, file_
 use Rattle.file_grammar.specs.Described.{IsElement, AreElements, IsEntry}
 use Rattle.file_grammar.proofs.Bodies.{structure_fields-sound, element_fields-sound}
 use Rattle.file_grammar.proofs.SameItems.{same_structure}
-use Rattle.canonical_file.specs.Bytes.{body_bytes, structure_bytes, four_zeros, element_body, head_body, elements_bytes}
+use Rattle.canonical_file.specs.Bytes.{body_bytes, structure_bytes, four_zeros, element_body, head_body}
+use Rattle.canonical_file.specs.Bytes.{elements_bytes}
 use Rattle.canonical_file.specs.Bytes.{entry_bytes}
 use Rattle.canonical_file.proofs.Spelled.{body-written}
 use Rattle.canonical_laws.specs.Writable.{IsWritableElement, IsWritableEntry}
@@ -66,7 +67,8 @@ element-stands file at k e w few limit h = record {
   stands = stands-held file at 2 k (element_body e) h few (element-short e w) limit;
   class = refl;
   tail = four_zeros;
-  body = with_zeros element_fields (element_values e) (body_bytes element_fields (element_values e)) (element-written e w);
+  body = with_zeros element_fields (element_values e) (body_bytes element_fields (element_values e))
+      (element-written e w);
   type = w.read;
 }
 
@@ -158,7 +160,8 @@ entry-stands file at k e next w few limit h stands place other =
       stands = stands-held file at 1 k (head_body e) (holds-left file at bytes more h) few (head-short e w) limit;
       class = refl;
       tail = four_zeros;
-      body = with_zeros structure_fields (head_values e) (body_bytes structure_fields (head_values e)) (head-written e w);
+      body = with_zeros structure_fields (head_values e) (body_bytes structure_fields (head_values e))
+          (head-written e w);
       elements = elements-stand file (after_head at e) 0 e.elements w.elements (omega (arith, w.short)) limit rest;
       longest = λ s d here is.
           let same : s ≡ next = same_structure Little file s next is.stands stands

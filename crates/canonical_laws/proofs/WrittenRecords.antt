@@ -13,7 +13,8 @@ use Rattle.layout_plan.specs.Body.{values_length}
 use Rattle.layout_plan.specs.Written.{IsWritten}
 use Rattle.layout_plan.proofs.LayoutLemmas.{layout_of-sound}
 use Rattle.file_grammar.specs.declared.kind.Kind.{Kind}
-use Rattle.file_grammar.specs.declared.kind.Kind.TheVariants.{FrSH, FrSE, FrameH, FrEndOfFrame, FrTOC, FrEndOfFile, Other}
+use Rattle.file_grammar.specs.declared.kind.Kind.TheVariants.{FrSH, FrSE, FrameH, FrEndOfFrame, FrTOC, FrEndOfFile}
+use Rattle.file_grammar.specs.declared.kind.Kind.TheVariants.{Other}
 use Rattle.file_grammar.specs.Structure.{Structure, size_of, end_of, record_limit, file_limit, StandsWhole}
 use Rattle.file_grammar.specs.Kind.{kind_named, kind_of}
 use Rattle.file_grammar.specs.Record.{Reading, reading_by, reading_of, values_of, weight_of}

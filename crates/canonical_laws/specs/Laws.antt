@@ -20,7 +20,8 @@ use Rattle.canonical_laws.specs.Writable.{IsWritableFrame, as_read, IsWritableCl
 
 -- ---- what is written is read back
 
--- The file is well-formed, and its content is this closing and just these frames, with the roots that a file gives them.
+-- The file is well-formed, and its content is this closing and just these frames, with the roots that a file gives
+-- them.
 pub record ReadsBack (file : List ℕ) (closing : Closing) (frames : List Frame) : Type 0 where
   pub items : List Item
   pub last : Before
@@ -43,7 +44,8 @@ ContentsAreUnique = (file : List ℕ) (c d : Content) → HasContent file c → 
 
 -- A content has one canonical file.
 abbrev pub CanonicalFilesAreUnique : Type 0
-CanonicalFilesAreUnique = (c : Content) (bytes others : List ℕ) → IsCanonical c bytes → IsCanonical c others → bytes ≡ others
+CanonicalFilesAreUnique =
+    (c : Content) (bytes others : List ℕ) → IsCanonical c bytes → IsCanonical c others → bytes ≡ others
 
 -- The canonical file of a well-formed file's content is well-formed, and has the same content.
 abbrev pub CanonicalFilesKeepContents : Type 0
@@ -64,7 +66,8 @@ CanonicalFilesStay =
     (file bytes again : List ℕ) (c d : Content) → AreBytes file → HasContent file c → IsCanonical c bytes
     → length bytes ≤ file_limit → HasContent bytes d → IsCanonical d again → again ≡ bytes
 
--- The canonical file of a splice of the contents of well-formed files is well-formed, and has the content of the splice.
+-- The canonical file of a splice of the contents of well-formed files is well-formed, and has the content of the
+-- splice.
 abbrev pub SplicesKeepContents : Type 0
 SplicesKeepContents =
     (file : List ℕ) (files : List (List ℕ)) (first c : Content) (others : List Content) (bytes : List ℕ) → AreBytes file

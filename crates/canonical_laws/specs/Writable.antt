@@ -14,7 +14,8 @@ use Rattle.layout_plan.specs.Written.{cleared}
 use Rattle.link_graph.specs.Table.{IsWithin}
 use Rattle.record_writer.specs.Fit.{IsShortText, Fits}
 use Rattle.file_grammar.specs.declared.kind.Kind.{Kind}
-use Rattle.file_grammar.specs.declared.kind.Kind.TheVariants.{FrSH, FrSE, FrameH, FrEndOfFrame, FrTOC, FrEndOfFile, Other}
+use Rattle.file_grammar.specs.declared.kind.Kind.TheVariants.{FrSH, FrSE, FrameH, FrEndOfFrame, FrTOC, FrEndOfFile}
+use Rattle.file_grammar.specs.declared.kind.Kind.TheVariants.{Other}
 use Rattle.file_grammar.specs.Structure.{record_limit}
 use Rattle.file_grammar.specs.Kind.{kind_named}
 use Rattle.file_grammar.specs.Closing.{closes}
@@ -101,8 +102,8 @@ pub record IsWritableEnd (dictionary : List Entry) (f : Frame) : Type 0 where
 abbrev pub size_of_record : Record → ℕ
 size_of_record r = length (record_bytes r)
 
--- A frame in its order, by a dictionary that holds all its entries: its rows and its end can be written, one of its rows
--- is a FrameH, and together they are within the limit.
+-- A frame in its order, by a dictionary that holds all its entries: its rows and its end can be written, one of its
+-- rows is a FrameH, and together they are within the limit.
 pub record IsWritableFrame (dictionary : List Entry) (f : Frame) : Type 0 where
   pub rows : (k : ℕ) → k < length f.rows → IsWritableRow dictionary f k
   pub end : IsWritableEnd dictionary f
