@@ -44,7 +44,7 @@ linked-within f linked n j m is = by (cases_lt n (length f.rows))
     by (inr le) =
         absurd (none-some (Some m) (sym (ap (λ (r : Row). slice_get r.links j) (get_or_past f.rows n no_row le)) ∙ is))
 
-member-within : (f : Frame) (s : List ℕ) → IsBreadthOrder (frame_graph f).graph s → IsLinked f → (n : ℕ)
+pub member-within : (f : Frame) (s : List ℕ) → IsBreadthOrder (frame_graph f).graph s → IsLinked f → (n : ℕ)
     → has s n ≡ true → n < length f.rows
 member-within f s o linked n there =
     by (or_cases (has g.roots n) (has (flat_map (targets g) s) n)

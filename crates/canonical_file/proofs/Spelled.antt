@@ -134,7 +134,7 @@ parts P (x ∷ xs) ys all =
     let rest = parts P xs ys (All-tail P x (xs ++ ys) all) in
     (All-cons P x xs (All-head P x (xs ++ ys) all) rest.0, rest.1)
 
-parts_of : (bytes front back : List ℕ) → bytes ≡ front ++ back → AreBytes bytes → AreBytes front × AreBytes back
+pub parts_of : (bytes front back : List ℕ) → bytes ≡ front ++ back → AreBytes bytes → AreBytes front × AreBytes back
 parts_of bytes front back split all = parts IsByte front back (subst AreBytes split all)
 
 pair-is : (width : Width) (pair : ℕ × ℕ) (bytes : List ℕ) → AreBytes bytes → IsPair Little width pair bytes

@@ -1,0 +1,189 @@
+-- The canonical file of frames and of a closing that can be written is well-formed, and its content is these.
+use Rattle.std.proofs.Common.{◌≡◌, ℕ, ◌≤◌, Ok, Option, List, [], ◌∷◌, ◌++◌, length, map, take, refl, sym, ap, ◌∙◌}
+use Rattle.std.proofs.Common.{subst, arith, append_assoc, append-nil, length-append}
+use Rattle.std.specs.Prelude.{IfSome}
+use Rattle.std.specs.List.{AllByRecursion}
+use Rattle.std.proofs.lemmas.List.{take_at}
+use Rattle.scalar_types.specs.declared.Order.TheVariants.{Little}
+use Rattle.frame_head.specs.Header.{header_bytes, header_of}
+use Rattle.frame_head.proofs.HeaderBytes.{header_bytes-length, header_of-bytes}
+use Rattle.dictionary.specs.declared.entries.Entry.{Entry}
+use Rattle.dictionary.specs.Dictionary.{IsDictionary}
+use Rattle.file_grammar.specs.Structure.{file_limit}
+use Rattle.file_grammar.specs.Item.{Item, Before, nothing_yet}
+use Rattle.file_grammar.specs.MayStand.{frames_limit, IsWellFormed}
+use Rattle.frame_content.specs.Frames.{Frame}
+use Rattle.canonical_file.specs.declared.closing.Closing.{Closing}
+use Rattle.canonical_file.specs.Written.{Written, begun, after_frames, after_table, closing_part, canonical_head}
+use Rattle.canonical_file.specs.Written.{canonical_file}
+use Rattle.canonical_laws.specs.Content.{closing_by}
+use Rattle.canonical_laws.specs.Writable.{IsWritableFrame, as_read, IsWritableFileEnd, IsWritableTable}
+use Rattle.canonical_laws.specs.Laws.{ReadsBack, WrittenFilesAreReadBack}
+use Rattle.canonical_laws.proofs.Holding.{Holds}
+use Rattle.canonical_laws.proofs.RecordsInTurn.{stand-append}
+use Rattle.canonical_laws.proofs.WholeFrames.{IsBetween}
+use Rattle.canonical_laws.proofs.Heads.{Tells, part_bytes, after_all, frames_items, read_from, read-append, HeadStands}
+use Rattle.canonical_laws.proofs.Heads.{head-stands, size-parts, count-frames}
+use Rattle.canonical_laws.proofs.FrameEntries.{AreNeeded, frames-needed, none-needed, few-needed}
+use Rattle.canonical_laws.proofs.FileEnds.{end-place}
+use Rattle.canonical_laws.proofs.ClosingParts.{past_closing, Closes, past-table, told_bytes, told_seek, file-ends}
+use Rattle.canonical_laws.proofs.ClosingParts.{ends-file}
+use Rattle.canonical_laws.proofs.ClosingParts.{all_items, after_closing, closing-stands, closing-frames}
+use Rattle.canonical_laws.proofs.ClosingsBack.{closing-back}
+
+-- ---- the head
+
+pub header-read : (rest more : List ℕ) → header_of (take 40 (header_bytes ++ rest ++ more)) ≡ Ok Little
+header-read rest more =
+    ap (λ xs. header_of (take 40 xs)) (append_assoc header_bytes rest more)
+    ∙ ap header_of (take_at header_bytes (rest ++ more) 40 header_bytes-length)
+    ∙ header_of-bytes
+
+pub nothing-between : (dictionary : List Entry) → IsBetween dictionary nothing_yet
+nothing-between dictionary =
+    record { entries = tt; frame = refl; load = refl; unclosed = refl; no_table = refl }
+
+pub begun-tells : Tells begun nothing_yet
+begun-tells = record { size = refl; entries = refl; count = refl }
+
+-- What is known of frames that are to be written.
+pub record AreWritten (dictionary : List Entry) (fs : List Frame) : Type 0 where
+  pub sound : IsDictionary dictionary
+  pub frames : AllByRecursion (IsWritableFrame dictionary) fs
+  pub few : length fs ≤ frames_limit
+
+pub needed : (dictionary : List Entry) (fs : List Frame) → AreWritten dictionary fs
+    → AreNeeded dictionary (after_frames begun fs).entries
+needed dictionary fs all = frames-needed dictionary begun fs (none-needed dictionary) all.frames
+
+-- the head of a file that begins with it
+pub whole-head : (dictionary : List Entry) (fs : List Frame) (more : List ℕ) → AreWritten dictionary fs
+    → length (canonical_head fs ++ more) ≤ file_limit
+    → HeadStands dictionary (canonical_head fs ++ more) begun nothing_yet fs
+whole-head dictionary fs more all limit =
+    let parts : List ℕ = part_bytes begun fs in
+    let few = few-needed dictionary (after_frames begun fs).entries all.sound (needed dictionary fs all) in
+    let h : Holds (canonical_head fs ++ more) 40 parts = record {
+      front = header_bytes;
+      rest = more;
+      split = append_assoc header_bytes parts more;
+      place = header_bytes-length;
+    } in
+    head-stands dictionary (canonical_head fs ++ more) begun nothing_yet fs all.sound all.frames
+    (nothing-between dictionary) begun-tells (omega (arith, all.few)) (omega (arith, few)) limit h
+
+pub head-length : (fs : List Frame) → length (canonical_head fs) ≡ (after_frames begun fs).size
+head-length fs =
+    let parts : List ℕ = part_bytes begun fs in
+    omega (arith, length-append header_bytes parts, header_bytes-length, size-parts begun fs)
+
+-- ---- the file
+
+closes : (dictionary : List Entry) (fs : List Frame) (e : Entry) (table : Option Entry) → AreWritten dictionary fs
+    → IsWritableFileEnd dictionary e → IfSome table (IsWritableTable dictionary)
+    → length (canonical_file (record { end = e; table = table }) fs) ≤ file_limit
+    → Closes dictionary (canonical_file (record { end = e; table = table }) fs) (after_frames begun fs)
+    (after_all nothing_yet fs) e table
+closes dictionary fs e table all end table_is limit =
+    let c : Closing = record { end = e; table = table } in
+    let w : Written = after_frames begun fs in
+    let closing : List ℕ = closing_part w c in
+    let head = whole-head dictionary fs closing all limit in
+    let b : Before = after_all nothing_yet fs in
+    let front : length (canonical_head fs) ≡ b.place = head-length fs ∙ head.tells.size in
+    record {
+      sound = all.sound;
+      between = head.between;
+      tells = head.tells;
+      needed = subst (AreNeeded dictionary) head.tells.entries (needed dictionary fs all);
+      frames = omega (arith, count-frames begun fs, all.few);
+      end = end;
+      table_is = table_is;
+      limit = limit;
+      holds = record {
+        front = canonical_head fs;
+        rest = [];
+        split = ap (λ xs. canonical_head fs ++ xs) (sym (append-nil closing));
+        place = front;
+      };
+      whole = omega (arith, length-append (canonical_head fs) closing, front);
+    }
+
+-- What is known of the whole file.
+pub record StandsAs (file : List ℕ) (fs : List Frame) (entries : List Entry) : Type 0 where
+  pub items : List Item
+  pub last : Before
+  pub well_formed : IsWellFormed file Little items last
+  pub frames : read_from nothing_yet items ≡ map as_read fs
+  pub dictionary : last.dictionary ≡ entries
+
+-- the entries of the whole file
+abbrev pub all_entries : List Frame → Closing → List Entry
+all_entries fs c = (after_table (after_frames begun fs) c).entries ++ c.end ∷ []
+
+file-stands : (dictionary : List Entry) (fs : List Frame) (e : Entry) (table : Option Entry) → AreWritten dictionary fs
+    → IsWritableFileEnd dictionary e → IfSome table (IsWritableTable dictionary)
+    → length (canonical_file (record { end = e; table = table }) fs) ≤ file_limit
+    → StandsAs (canonical_file (record { end = e; table = table }) fs) fs
+    (all_entries fs (record { end = e; table = table }))
+file-stands dictionary fs e table all end table_is limit =
+    let c : Closing = record { end = e; table = table } in
+    let file : List ℕ = canonical_file c fs in
+    let w : Written = after_frames begun fs in
+    let closing : List ℕ = closing_part w c in
+    let b : Before = after_all nothing_yet fs in
+    let head = whole-head dictionary fs closing all limit in
+    let may = closes dictionary fs e table all end table_is limit in
+    let past = past-table dictionary file w b e table may in
+    let mid : Before = past_closing w b table in
+    let more : List Item = all_items w b e table in
+    let stand = closing-stands dictionary file w b e table may in
+    let ends = ends-file dictionary file w b e table may in
+    let front : length (canonical_head fs) ≡ b.place = head-length fs ∙ head.tells.size in
+    let brings : read_from b more ≡ [] = ap (map _) (closing-frames dictionary file w b e table may) in
+    record {
+      items = frames_items nothing_yet fs ++ more;
+      last = after_closing w b e table;
+      well_formed = record {
+        begins = record {
+          size = omega (
+            arith,
+            length-append (canonical_head fs) closing,
+            length-append header_bytes (part_bytes begun fs),
+            header_bytes-length,
+          );
+          header = header-read (part_bytes begun fs) closing;
+          stand = stand-append Little file nothing_yet b (after_closing w b e table) (frames_items nothing_yet fs) more
+              head.stand stand;
+        };
+        closed = refl;
+        ends = sym (file-ends dictionary file w b e table may
+            ∙ end-place dictionary file mid e w.frames (told_bytes w e table) (told_seek w e table) ends);
+      };
+      frames = read-append file nothing_yet b (frames_items nothing_yet fs) more head.stand
+          ∙ (λ i. head.frames i ++ brings i)
+          ∙ append-nil (map as_read fs);
+      dictionary = ap (λ es. es ++ e ∷ []) (sym past.tells.entries);
+    }
+
+-- ---- it reads back
+
+pub read_back : WrittenFilesAreReadBack
+read_back dictionary fs closing sound frames writable few limit =
+    by closing.end closing.table writable.end writable.table limit
+  where
+    by : (e : Entry) (table : Option Entry) → IsWritableFileEnd dictionary e → IfSome table (IsWritableTable dictionary)
+        → length (canonical_file (record { end = e; table = table }) fs) ≤ file_limit
+        → ReadsBack (canonical_file (record { end = e; table = table }) fs) (record { end = e; table = table }) fs
+    by e table end table_is limit =
+        let all : AreWritten dictionary fs = record { sound = sound; frames = frames; few = few } in
+        let es : List Entry = (after_frames begun fs).entries in
+        let stands = file-stands dictionary fs e table all end table_is limit in
+        let closing_is : closing_by stands.last.dictionary ≡ record { end = e; table = table } =
+        ap closing_by stands.dictionary ∙ closing-back dictionary es e table (needed dictionary fs all) end table_is in
+        record {
+          items = stands.items;
+          last = stands.last;
+          well_formed = stands.well_formed;
+          content_is = λ i. record { closing = closing_is i; frames = stands.frames i };
+        }

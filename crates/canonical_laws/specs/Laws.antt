@@ -1,0 +1,90 @@
+-- The laws of contents and canonical files.
+use Rattle.std.specs.Prelude.{◌≡◌, ◌≤◌, ◌↔◌, ℕ, false, List, length, map, take, All}
+use Rattle.std.specs.List.{AllByRecursion, AllZip}
+use Rattle.scalar_types.specs.declared.Order.{Order}
+use Rattle.scalar_types.specs.declared.Order.TheVariants.{Little}
+use Rattle.dictionary.specs.declared.entries.Entry.{Entry}
+use Rattle.dictionary.specs.Dictionary.{IsDictionary}
+use Rattle.file_grammar.specs.Structure.{file_limit}
+use Rattle.file_grammar.specs.Item.{Item, Before}
+use Rattle.file_grammar.specs.MayStand.{frames_limit, Begins, IsWellFormed}
+use Rattle.file_grammar.specs.Laws.{WellFormed}
+use Rattle.frame_content.specs.Frames.{Frame}
+use Rattle.canonical_file.specs.declared.closing.Closing.{Closing}
+use Rattle.canonical_file.specs.Ranges.{AreBytes}
+use Rattle.canonical_file.specs.Written.{canonical_head, canonical_file}
+use Rattle.canonical_file.specs.Contents.{Content, SameContent, IsCanonical}
+use Rattle.canonical_file.specs.Splices.{IsSplice}
+use Rattle.canonical_laws.specs.Content.{content_of, HasContent}
+use Rattle.canonical_laws.specs.Writable.{IsWritableFrame, as_read, IsWritableClosing}
+
+-- ---- what is written is read back
+
+-- The file is well-formed, and its content is this closing and just these frames, with the roots that a file gives
+-- them.
+pub record ReadsBack (file : List ℕ) (closing : Closing) (frames : List Frame) : Type 0 where
+  pub items : List Item
+  pub last : Before
+  pub well_formed : IsWellFormed file Little items last
+  pub content_is : content_of Little items last ≡ record { closing = closing; frames = map as_read frames }
+
+-- A canonical file of frames and of a closing that can be written is well-formed and reads back as these.
+abbrev pub WrittenFilesAreReadBack : Type 0
+WrittenFilesAreReadBack =
+    (dictionary : List Entry) (frames : List Frame) (closing : Closing) → IsDictionary dictionary
+    → AllByRecursion (IsWritableFrame dictionary) frames → IsWritableClosing dictionary closing
+    → length frames ≤ frames_limit → length (canonical_file closing frames) ≤ file_limit
+    → ReadsBack (canonical_file closing frames) closing frames
+
+-- ---- contents and their canonical files
+
+-- A file has one content.
+abbrev pub ContentsAreUnique : Type 0
+ContentsAreUnique = (file : List ℕ) (c d : Content) → HasContent file c → HasContent file d → c ≡ d
+
+-- A content has one canonical file.
+abbrev pub CanonicalFilesAreUnique : Type 0
+CanonicalFilesAreUnique =
+    (c : Content) (bytes others : List ℕ) → IsCanonical c bytes → IsCanonical c others → bytes ≡ others
+
+-- The canonical file of a well-formed file's content is well-formed, and has the same content.
+abbrev pub CanonicalFilesKeepContents : Type 0
+CanonicalFilesKeepContents =
+    (file bytes : List ℕ) (c : Content) → AreBytes file → HasContent file c → IsCanonical c bytes
+    → length bytes ≤ file_limit → (d : Content) × HasContent bytes d × SameContent c d
+
+-- Canonical files are equal bytes exactly where the contents are the same.
+abbrev pub CanonicalFilesTellContents : Type 0
+CanonicalFilesTellContents =
+    (file other bytes others : List ℕ) (c d : Content) → AreBytes file → AreBytes other → HasContent file c
+    → HasContent other d → IsCanonical c bytes → IsCanonical d others → length bytes ≤ file_limit
+    → length others ≤ file_limit → (bytes ≡ others) ↔ SameContent c d
+
+-- The canonical file of a canonical file is that file.
+abbrev pub CanonicalFilesStay : Type 0
+CanonicalFilesStay =
+    (file bytes again : List ℕ) (c d : Content) → AreBytes file → HasContent file c → IsCanonical c bytes
+    → length bytes ≤ file_limit → HasContent bytes d → IsCanonical d again → again ≡ bytes
+
+-- The canonical file of a splice of the contents of well-formed files is well-formed, and has the content of the
+-- splice.
+abbrev pub SplicesKeepContents : Type 0
+SplicesKeepContents =
+    (file : List ℕ) (files : List (List ℕ)) (first c : Content) (others : List Content) (bytes : List ℕ) → AreBytes file
+    → All AreBytes files → HasContent file first → AllZip HasContent files others → IsSplice first others c
+    → IsCanonical c bytes → length bytes ≤ file_limit → (d : Content) × HasContent bytes d × SameContent c d
+
+-- ---- prefixes
+
+-- No prefix of a file that begins with items and is still open after them is well-formed.
+abbrev pub NoPrefixOfAnOpenFile : Type 0
+NoPrefixOfAnOpenFile =
+    (file : List ℕ) (order : Order) (items : List Item) (last : Before) → Begins file order items last
+    → last.closed ≡ false → last.place ≡ length file → (n : ℕ) → WellFormed (take n file) → ⊥
+
+-- So no prefix of a canonical head is.
+abbrev pub NoPrefixOfACanonicalHead : Type 0
+NoPrefixOfACanonicalHead =
+    (dictionary : List Entry) (frames : List Frame) → IsDictionary dictionary
+    → AllByRecursion (IsWritableFrame dictionary) frames → length frames ≤ frames_limit
+    → length (canonical_head frames) ≤ file_limit → (n : ℕ) → WellFormed (take n (canonical_head frames)) → ⊥

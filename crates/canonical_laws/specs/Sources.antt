@@ -1,0 +1,51 @@
+-- What a file of bytes holds can be written again: its entries, its frames and its closing.
+use Rattle.std.specs.Prelude.{◌≡◌, ℕ, List, map, All}
+use Rattle.scalar_types.specs.declared.Order.{Order}
+use Rattle.dictionary.specs.declared.entries.Entry.{Entry}
+use Rattle.dictionary.specs.Dictionary.{IsDictionary}
+use Rattle.file_grammar.specs.Item.{Item, Before}
+use Rattle.file_grammar.specs.MayStand.{Begins, IsWellFormed}
+use Rattle.frame_content.specs.Labels.{printed_entry}
+use Rattle.frame_content.specs.Frames.{Frame}
+use Rattle.canonical_file.specs.Ranges.{AreBytes}
+use Rattle.canonical_file.specs.Ordered.{IsInOrder}
+use Rattle.canonical_file.specs.Renumbered.{IsLinked, HasOneHeader}
+use Rattle.canonical_laws.specs.Content.{closing_by, content_of}
+use Rattle.canonical_laws.specs.Writable.{IsWritableEntry, IsWritableFrame, as_read, IsWritableClosing}
+
+-- the entries as they are written again
+abbrev pub printed_entries : List Entry → List Entry
+printed_entries held = map printed_entry held
+
+-- What is known of the entries held: each can be written, as it stands and printed, and printed they are a dictionary.
+pub record AreWritable (held : List Entry) : Type 0 where
+  pub own : All IsWritableEntry held
+  pub printed : All IsWritableEntry (printed_entries held)
+  pub dictionary : IsDictionary (printed_entries held)
+
+-- The frame can be written, by a dictionary that holds its entries: its roots and links lead to its records, it has one
+-- FrameH, which is a root, and in its order it can be written and reads back with the roots that it has.
+pub record IsWritableInOrder (dictionary : List Entry) (f : Frame) : Type 0 where
+  pub linked : IsLinked f
+  pub header : HasOneHeader f
+  pub writable : (o : Frame) → IsInOrder f o → IsWritableFrame dictionary o
+  pub as_read_is : (o : Frame) → IsInOrder f o → as_read o ≡ o
+
+-- The entries that a beginning of a file of bytes holds can be written.
+abbrev pub EntriesOfFilesAreWritable : Type 0
+EntriesOfFilesAreWritable =
+    (file : List ℕ) (order : Order) (items : List Item) (last : Before) → AreBytes file → Begins file order items last
+    → AreWritable last.dictionary
+
+-- So can the frames that have ended in it, by the entries held.
+abbrev pub FramesOfFilesAreWritable : Type 0
+FramesOfFilesAreWritable =
+    (file : List ℕ) (order : Order) (items : List Item) (last : Before) → AreBytes file → Begins file order items last
+    → All (IsWritableInOrder (printed_entries last.dictionary)) (content_of order items last).frames
+
+-- And so can the closing of a well-formed file of bytes.
+abbrev pub ClosingsOfFilesAreWritable : Type 0
+ClosingsOfFilesAreWritable =
+    (file : List ℕ) (order : Order) (items : List Item) (last : Before) → AreBytes file
+    → IsWellFormed file order items last
+    → IsWritableClosing (printed_entries last.dictionary) (closing_by last.dictionary)

@@ -1,0 +1,42 @@
+//! The laws of contents and canonical files. Each is the contract of a function that does nothing: a crate
+//! that calls the function has the law.
+
+ghost use Rattle.canonical_laws.specs.Laws.{WrittenFilesAreReadBack, ContentsAreUnique};
+ghost use Rattle.canonical_laws.specs.Laws.{CanonicalFilesAreUnique, CanonicalFilesKeepContents};
+ghost use Rattle.canonical_laws.specs.Laws.{CanonicalFilesTellContents, CanonicalFilesStay};
+ghost use Rattle.canonical_laws.specs.Laws.{NoPrefixOfAnOpenFile, NoPrefixOfACanonicalHead};
+ghost use Rattle.canonical_laws.specs.Sources.{EntriesOfFilesAreWritable, FramesOfFilesAreWritable};
+ghost use Rattle.canonical_laws.specs.Sources.{ClosingsOfFilesAreWritable};
+
+/// A canonical file of frames and of a closing that can be written is well-formed and reads back as these.
+pub fn written_files_are_read_back()
+    ensures { WrittenFilesAreReadBack }
+{}
+
+/// What a file of bytes holds can be written: in each beginning of it the entries held and the frames that
+/// have ended, each in its order, and of a well-formed file the closing.
+pub fn sources_can_be_written()
+    ensures entries { EntriesOfFilesAreWritable }
+    ensures frames { FramesOfFilesAreWritable }
+    ensures closings { ClosingsOfFilesAreWritable }
+{}
+
+/// A file has one content, and a content has one canonical file.
+pub fn canonical_files_are_unique()
+    ensures contents { ContentsAreUnique }
+    ensures files { CanonicalFilesAreUnique }
+{}
+
+/// The canonical file of a well-formed file's content has the same content. So canonical files are equal
+/// exactly where the contents are the same, and the canonical file of a canonical file is that file.
+pub fn canonical_files_tell_contents()
+    ensures keep { CanonicalFilesKeepContents }
+    ensures tell { CanonicalFilesTellContents }
+    ensures stay { CanonicalFilesStay }
+{}
+
+/// No prefix of a file that is still open is well-formed, and so none of a canonical head.
+pub fn no_head_looks_whole()
+    ensures open_file { NoPrefixOfAnOpenFile }
+    ensures canonical_head { NoPrefixOfACanonicalHead }
+{}
