@@ -26,6 +26,7 @@ use Rattle.canonical_file.specs.Ranges.{IsInRange}
 use Rattle.canonical_file.specs.Bytes.{body_bytes, entry_bytes}
 use Rattle.canonical_file.specs.Records.{Record, entry_fields}
 use Rattle.canonical_file.specs.Written.{end_told, end_bytes}
+use Rattle.canonical_file.proofs.EndSizes.{end-length}
 use Rattle.canonical_laws.specs.Writable.{IsWritable, IsWritableFileEnd}
 use Rattle.canonical_laws.proofs.Holding.{Holds, holds-left, holds-right, length-structure}
 use Rattle.canonical_laws.proofs.WrittenRecords.{record_structure, record-size, record-stands, record-reads}
@@ -34,8 +35,8 @@ use Rattle.canonical_laws.proofs.WrittenRecords.{kind-held, past_entry, entry_it
 use Rattle.canonical_laws.proofs.WrittenRecords.{entry-may_stand}
 use Rattle.canonical_laws.proofs.PlainFields.{plain_fields, layout-plain, plain_values, values-plain, fits-plain}
 use Rattle.canonical_laws.proofs.PlainFields.{range-plain}
-use Rattle.canonical_laws.proofs.PlainFields.{size-plain, same_size-plain}
-use Rattle.canonical_laws.proofs.FileEndTold.{closes-parts, end-fits, end-range, end-small, same-size, end-told}
+use Rattle.canonical_laws.proofs.PlainFields.{size-plain}
+use Rattle.canonical_laws.proofs.FileEndTold.{closes-parts, end-fits, end-range, end-small, end-told}
 use Rattle.canonical_laws.proofs.FrameEnds.{frames_from}
 
 -- the record, and what it tells
@@ -68,22 +69,6 @@ body dictionary e n bytes seek w =
     λ i. body_bytes (fields dictionary e w i) (values dictionary e n bytes seek w i)
 
 -- ---- its size
-
--- its bytes are as many whatever it tells
-pub end-size : (dictionary : List Entry) (e : Entry) (n bytes seek : ℕ) → IsWritableFileEnd dictionary e
-    → length (end_bytes e n bytes seek) ≡ length (end_bytes e 0 0 0)
-end-size dictionary e n bytes seek w =
-    let all : List Element = e.elements in
-    let same = same_size-plain (end_told all n bytes seek) (end_told all 0 0 0) 0 all
-    (same-size all n bytes seek 0 0 0) in
-    omega (
-      arith,
-      length-structure e.class 0 (body_bytes (entry_fields e) (end_values e n bytes seek)),
-      length-structure e.class 0 (body_bytes (entry_fields e) (end_values e 0 0 0)),
-      ap length (body dictionary e n bytes seek w),
-      ap length (body dictionary e 0 0 0 w),
-      same,
-    )
 
 end-short : (dictionary : List Entry) (e : Entry) (n bytes seek : ℕ) → IsWritableFileEnd dictionary e
     → length (end_bytes e n bytes seek) ≤ record_limit
@@ -166,7 +151,7 @@ end-place dictionary file b e n bytes seek may =
       arith,
       may.ends,
       record-size (past_entry None b e).place (file_end e n bytes seek),
-      end-size dictionary e n bytes seek may.writable,
+      end-length e n bytes seek may.writable.closes,
     )
 
 end-may : (dictionary : List Entry) (file : List ℕ) (b : Before) (e : Entry) (n bytes seek : ℕ)

@@ -1,7 +1,7 @@
 -- The parts of frames one after another are those frames of the file.
 use Rattle.std.proofs.Common.{◌≡◌, ℕ, ◌+◌, ◌^◌, ◌<◌, ◌≤◌, List, [], ◌∷◌, ◌++◌, length, map, fold, flat_map, refl, sym}
 use Rattle.std.proofs.Common.{ap}
-use Rattle.std.proofs.Common.{◌∙◌, subst, arith, add-zero, length-append}
+use Rattle.std.proofs.Common.{◌∙◌, subst, arith, add-zero}
 use Rattle.std.specs.List.{AllByRecursion}
 use Rattle.std.proofs.lemmas.List.{map-append}
 use Rattle.scalar_types.specs.declared.Order.TheVariants.{Little}
@@ -100,16 +100,6 @@ head-stands dictionary file w b (f ∷ fs) sound all between tells few_frames fe
       between = rest.between;
       tells = rest.tells;
     }
-
--- the size that is told is that of the parts
-pub size-parts : (w : Written) (fs : List Frame) → (after_frames w fs).size ≡ w.size + length (part_bytes w fs)
-size-parts w [] = sym (add-zero w.size)
-size-parts w (f ∷ fs) =
-    omega (
-      arith,
-      size-parts (after_frame w f) fs,
-      length-append (frame_part w f) (part_bytes (after_frame w f) fs),
-    )
 
 pub count-frames : (w : Written) (fs : List Frame) → (after_frames w fs).frames ≡ w.frames + length fs
 count-frames w [] = sym (add-zero w.frames)

@@ -1,5 +1,5 @@
 -- No prefix of a file that is still open is well-formed: so no prefix of a canonical head is.
-use Rattle.std.proofs.Common.{◌≡◌, ℕ, ◌≤◌, true, false, List, [], ◌∷◌, ◌++◌, length, take, refl, sym, ap, ◌∙◌, subst}
+use Rattle.std.proofs.Common.{◌≡◌, ℕ, ◌≤◌, true, false, List, [], ◌∷◌, ◌++◌, length, take, sym, ap, ◌∙◌, subst}
 use Rattle.std.proofs.Common.{arith}
 use Rattle.std.proofs.Common.{append-nil, length-append, length-take}
 use Rattle.std.proofs.lemmas.List.{take-take}
@@ -13,12 +13,11 @@ use Rattle.file_grammar.specs.MayStand.{Stand, Begins}
 use Rattle.file_grammar.proofs.Advance.{moves}
 use Rattle.file_grammar.proofs.Headers.{same_order}
 use Rattle.file_grammar.proofs.Prefixes.{same_first, open_item}
-use Rattle.dictionary.specs.declared.entries.Entry.{Entry}
-use Rattle.frame_content.specs.Frames.{Frame}
-use Rattle.canonical_file.specs.Written.{begun, after_frames, canonical_head}
+use Rattle.canonical_file.specs.Written.{begun, canonical_head}
+use Rattle.canonical_file.proofs.Sizes.{head-size}
 use Rattle.canonical_laws.specs.Laws.{NoPrefixOfAnOpenFile, NoPrefixOfACanonicalHead}
 use Rattle.canonical_laws.proofs.Heads.{part_bytes, HeadStands, frames_items, after_all}
-use Rattle.canonical_laws.proofs.WholeFiles.{header-read, AreWritten, whole-head, head-length}
+use Rattle.canonical_laws.proofs.WholeFiles.{header-read, AreWritten, whole-head}
 
 no_closed : (order : Order) (n : ℕ) (file : List ℕ) (b : Before) (items others : List Item) (last mid : Before)
     → Stand order (take n file) b items last → Stand order file b others mid → last.closed ≡ true
@@ -69,4 +68,4 @@ no_head_prefix dictionary fs sound frames few limit n =
       stand = head.stand;
     } in
     no_open_prefix file Little (frames_items nothing_yet fs) mid begins head.between.unclosed
-    (sym (head-length fs ∙ head.tells.size)) n
+    (sym (head-size fs ∙ head.tells.size)) n

@@ -16,6 +16,7 @@ use Rattle.frame_content.specs.Frames.{Frame}
 use Rattle.canonical_file.specs.declared.closing.Closing.{Closing}
 use Rattle.canonical_file.specs.Written.{Written, begun, after_frames, after_table, closing_part, canonical_head}
 use Rattle.canonical_file.specs.Written.{canonical_file}
+use Rattle.canonical_file.proofs.Sizes.{head-size, file-size}
 use Rattle.canonical_laws.specs.Content.{closing_by}
 use Rattle.canonical_laws.specs.Writable.{IsWritableFrame, as_read, IsWritableFileEnd, IsWritableTable}
 use Rattle.canonical_laws.specs.Laws.{ReadsBack, WrittenFilesAreReadBack}
@@ -23,10 +24,10 @@ use Rattle.canonical_laws.proofs.Holding.{Holds}
 use Rattle.canonical_laws.proofs.RecordsInTurn.{stand-append}
 use Rattle.canonical_laws.proofs.WholeFrames.{IsBetween}
 use Rattle.canonical_laws.proofs.Heads.{Tells, part_bytes, after_all, frames_items, read_from, read-append, HeadStands}
-use Rattle.canonical_laws.proofs.Heads.{head-stands, size-parts, count-frames}
+use Rattle.canonical_laws.proofs.Heads.{head-stands, count-frames}
 use Rattle.canonical_laws.proofs.FrameEntries.{AreNeeded, frames-needed, none-needed, few-needed}
 use Rattle.canonical_laws.proofs.FileEnds.{end-place}
-use Rattle.canonical_laws.proofs.ClosingParts.{past_closing, Closes, past-table, told_bytes, told_seek, file-ends}
+use Rattle.canonical_laws.proofs.ClosingParts.{past_closing, Closes, past-table, told_bytes, told_seek}
 use Rattle.canonical_laws.proofs.ClosingParts.{ends-file}
 use Rattle.canonical_laws.proofs.ClosingParts.{all_items, after_closing, closing-stands, closing-frames}
 use Rattle.canonical_laws.proofs.ClosingsBack.{closing-back}
@@ -72,11 +73,6 @@ whole-head dictionary fs more all limit =
     head-stands dictionary (canonical_head fs ++ more) begun nothing_yet fs all.sound all.frames
     (nothing-between dictionary) begun-tells (omega (arith, all.few)) (omega (arith, few)) limit h
 
-pub head-length : (fs : List Frame) → length (canonical_head fs) ≡ (after_frames begun fs).size
-head-length fs =
-    let parts : List ℕ = part_bytes begun fs in
-    omega (arith, length-append header_bytes parts, header_bytes-length, size-parts begun fs)
-
 -- ---- the file
 
 closes : (dictionary : List Entry) (fs : List Frame) (e : Entry) (table : Option Entry) → AreWritten dictionary fs
@@ -90,7 +86,7 @@ closes dictionary fs e table all end table_is limit =
     let closing : List ℕ = closing_part w c in
     let head = whole-head dictionary fs closing all limit in
     let b : Before = after_all nothing_yet fs in
-    let front : length (canonical_head fs) ≡ b.place = head-length fs ∙ head.tells.size in
+    let front : length (canonical_head fs) ≡ b.place = head-size fs ∙ head.tells.size in
     record {
       sound = all.sound;
       between = head.between;
@@ -106,7 +102,7 @@ closes dictionary fs e table all end table_is limit =
         split = ap (λ xs. canonical_head fs ++ xs) (sym (append-nil closing));
         place = front;
       };
-      whole = omega (arith, length-append (canonical_head fs) closing, front);
+      whole = file-size c fs end.closes;
     }
 
 -- What is known of the whole file.
@@ -139,7 +135,7 @@ file-stands dictionary fs e table all end table_is limit =
     let more : List Item = all_items w b e table in
     let stand = closing-stands dictionary file w b e table may in
     let ends = ends-file dictionary file w b e table may in
-    let front : length (canonical_head fs) ≡ b.place = head-length fs ∙ head.tells.size in
+    let front : length (canonical_head fs) ≡ b.place = head-size fs ∙ head.tells.size in
     let brings : read_from b more ≡ [] = ap (map _) (closing-frames dictionary file w b e table may) in
     record {
       items = frames_items nothing_yet fs ++ more;
@@ -157,7 +153,7 @@ file-stands dictionary fs e table all end table_is limit =
               head.stand stand;
         };
         closed = refl;
-        ends = sym (file-ends dictionary file w b e table may
+        ends = sym (may.whole
             ∙ end-place dictionary file mid e w.frames (told_bytes w e table) (told_seek w e table) ends);
       };
       frames = read-append file nothing_yet b (frames_items nothing_yet fs) more head.stand
