@@ -1,5 +1,5 @@
 -- The laws of contents and canonical files.
-use Rattle.std.specs.Prelude.{◌≡◌, ◌≤◌, ◌↔◌, ℕ, false, List, length, map, take, All}
+use Rattle.std.specs.Prelude.{◌≡◌, ◌≤◌, ◌↔◌, ℕ, false, List, [], ◌∷◌, length, map, take, All}
 use Rattle.std.specs.List.{AllByRecursion, AllZip}
 use Rattle.scalar_types.specs.declared.Order.{Order}
 use Rattle.scalar_types.specs.declared.Order.TheVariants.{Little}
@@ -10,9 +10,13 @@ use Rattle.file_grammar.specs.Item.{Item, Before}
 use Rattle.file_grammar.specs.MayStand.{frames_limit, Begins, IsWellFormed}
 use Rattle.file_grammar.specs.Laws.{WellFormed}
 use Rattle.frame_content.specs.Frames.{Frame}
+use Rattle.file_content.specs.declared.state.TableState.{TableState}
+use Rattle.file_content.specs.declared.state.TableState.TheVariants as state
+use Rattle.file_content.specs.declared.contents.Contents.{Contents}
+use Rattle.file_content.specs.Contents.{AreContents}
 use Rattle.canonical_file.specs.declared.closing.Closing.{Closing}
 use Rattle.canonical_file.specs.Ranges.{AreBytes}
-use Rattle.canonical_file.specs.Written.{canonical_head, canonical_file}
+use Rattle.canonical_file.specs.Written.{begun, after_frames, table_piece, canonical_head, canonical_file}
 use Rattle.canonical_file.specs.Contents.{Content, SameContent, IsCanonical}
 use Rattle.canonical_file.specs.Splices.{IsSplice}
 use Rattle.canonical_laws.specs.Content.{content_of, HasContent}
@@ -35,6 +39,20 @@ WrittenFilesAreReadBack =
     → AllByRecursion (IsWritableFrame dictionary) frames → IsWritableClosing dictionary closing
     → length frames ≤ frames_limit → length (canonical_file closing frames) ≤ file_limit
     → ReadsBack (canonical_file closing frames) closing frames
+
+-- the state of a table by the bytes of its record
+abbrev pub state_by : List ℕ → TableState
+state_by [] = state.None
+state_by (b ∷ bytes) = state.Good
+
+-- The contents table of such a file is good where its record is written, and else there is none.
+abbrev pub CanonicalTablesAreGood : Type 0
+CanonicalTablesAreGood =
+    (dictionary : List Entry) (frames : List Frame) (closing : Closing) (c : Contents) → IsDictionary dictionary
+    → AllByRecursion (IsWritableFrame dictionary) frames → IsWritableClosing dictionary closing
+    → length frames ≤ frames_limit → length (canonical_file closing frames) ≤ file_limit
+    → AreContents (canonical_file closing frames) c
+    → c.table ≡ state_by (table_piece (after_frames begun frames) closing).record_itself
 
 -- ---- contents and their canonical files
 
