@@ -13,6 +13,7 @@ use Rattle.file_grammar.specs.Structure.{Structure, record_limit, file_limit}
 use Rattle.file_grammar.specs.Kind.{kind_named, is_frame_kind}
 use Rattle.file_grammar.specs.Item.{Item, Before}
 use Rattle.file_grammar.specs.MayStand.{frames_limit, Stand}
+use Rattle.file_content.specs.Stored.{frame_ended}
 use Rattle.item_reader.proofs.Growing.{entry_of-new}
 use Rattle.canonical_file.specs.declared.closing.Closing.{Closing}
 use Rattle.canonical_file.specs.Bytes.{entry_bytes}
@@ -26,7 +27,7 @@ use Rattle.canonical_laws.proofs.Holding.{Holds, holds-left, holds-right, holds-
 use Rattle.canonical_laws.proofs.WrittenEntries.{head_structure}
 use Rattle.canonical_laws.proofs.AgreeingEntries.{AreIn, no_name, added-in}
 use Rattle.canonical_laws.proofs.RecordsInTurn.{stand-append}
-use Rattle.canonical_laws.proofs.FrameEnds.{frames_from, frames-append}
+use Rattle.canonical_laws.proofs.FrameEnds.{frames_from, brings-append}
 use Rattle.canonical_laws.proofs.WholeFrames.{IsBetween}
 use Rattle.canonical_laws.proofs.Heads.{Tells}
 use Rattle.canonical_laws.proofs.FileEnds.{AreEndNumbers, EndsFile, end_items, after_file, end-stands}
@@ -290,6 +291,6 @@ closing-frames dictionary file w b e (Some t) may =
     let next : Structure = head_structure mid.place (length mid.dictionary) e in
     let has = has-table dictionary file w b e t may in
     let stand = table-stands dictionary (fits w t) file b (table_of w t) next has in
-    frames-append file b mid (closing_items w b (Some t)) (end_items mid e w.frames n k) stand
+    brings-append frame_ended file b mid (closing_items w b (Some t)) (end_items mid e w.frames n k) stand
     ∙ (λ i. table-frames dictionary (fits w t) b (table_of w t) may.table_is has.class has.name i
     ++ end-frames dictionary file mid e w.frames n k (ends-file dictionary file w b e (Some t) may) i)
