@@ -13,7 +13,6 @@ use Rattle.file_grammar.specs.Structure.{Structure, record_limit, file_limit}
 use Rattle.file_grammar.specs.Kind.{kind_named, is_frame_kind}
 use Rattle.file_grammar.specs.Item.{Item, Before}
 use Rattle.file_grammar.specs.MayStand.{frames_limit, Stand}
-use Rattle.file_content.specs.Stored.{frame_ended}
 use Rattle.item_reader.proofs.Growing.{entry_of-new}
 use Rattle.canonical_file.specs.declared.closing.Closing.{Closing}
 use Rattle.canonical_file.specs.Bytes.{entry_bytes}
@@ -27,14 +26,11 @@ use Rattle.canonical_laws.proofs.Holding.{Holds, holds-left, holds-right, holds-
 use Rattle.canonical_laws.proofs.WrittenEntries.{head_structure}
 use Rattle.canonical_laws.proofs.AgreeingEntries.{AreIn, no_name, added-in}
 use Rattle.canonical_laws.proofs.RecordsInTurn.{stand-append}
-use Rattle.canonical_laws.proofs.FrameEnds.{frames_from, brings-append}
 use Rattle.canonical_laws.proofs.WholeFrames.{IsBetween}
 use Rattle.canonical_laws.proofs.Heads.{Tells}
 use Rattle.canonical_laws.proofs.FileEnds.{AreEndNumbers, EndsFile, end_items, after_file, end-stands}
-use Rattle.canonical_laws.proofs.FileEnds.{end-frames}
 use Rattle.canonical_laws.proofs.FrameEntries.{AreNeeded, few-needed, not-needed}
 use Rattle.canonical_laws.proofs.TableParts.{table_bytes, table_items, past_table, table-facts, HasTable, table-stands}
-use Rattle.canonical_laws.proofs.TableParts.{table-frames}
 
 -- ---- an entry that is new
 
@@ -231,7 +227,7 @@ abbrev pub after_closing : Written → Before → Entry → Option Entry → Bef
 after_closing w b e table =
     after_file (past_closing w b table) e w.frames (told_bytes w e table) (told_seek w e table)
 
-has-table : (dictionary : List Entry) (file : List ℕ) (w : Written) (b : Before) (e t : Entry)
+pub has-table : (dictionary : List Entry) (file : List ℕ) (w : Written) (b : Before) (e t : Entry)
     → Closes dictionary file w b e (Some t)
     → HasTable dictionary (fits w t) file b (table_of w t)
     (head_structure (past_closing w b (Some t)).place (length (past_closing w b (Some t)).dictionary) e)
@@ -277,20 +273,3 @@ closing-stands dictionary file w b e (Some t) may =
     (end_items mid e w.frames n k)
     (table-stands dictionary (fits w t) file b (table_of w t) next (has-table dictionary file w b e t may))
     (end-stands dictionary file mid e w.frames n k (ends-file dictionary file w b e (Some t) may))
-
--- it brings no frame
-pub closing-frames : (dictionary : List Entry) (file : List ℕ) (w : Written) (b : Before) (e : Entry)
-    (table : Option Entry) → Closes dictionary file w b e table → frames_from b (all_items w b e table) ≡ []
-closing-frames dictionary file w b e None may =
-    end-frames dictionary file b e w.frames (told_bytes w e None) (told_seek w e None)
-    (ends-file dictionary file w b e None may)
-closing-frames dictionary file w b e (Some t) may =
-    let mid : Before = past_closing w b (Some t) in
-    let n : ℕ = told_bytes w e (Some t) in
-    let k : ℕ = told_seek w e (Some t) in
-    let next : Structure = head_structure mid.place (length mid.dictionary) e in
-    let has = has-table dictionary file w b e t may in
-    let stand = table-stands dictionary (fits w t) file b (table_of w t) next has in
-    brings-append frame_ended file b mid (closing_items w b (Some t)) (end_items mid e w.frames n k) stand
-    ∙ (λ i. table-frames dictionary (fits w t) b (table_of w t) may.table_is has.class has.name i
-    ++ end-frames dictionary file mid e w.frames n k (ends-file dictionary file w b e (Some t) may) i)

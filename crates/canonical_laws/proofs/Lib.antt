@@ -18,6 +18,7 @@ pub mod FileEnds
 pub mod FrameEntries
 pub mod TableParts
 pub mod ClosingParts
+pub mod ClosingBrings
 pub mod ClosingsBack
 pub mod WholeFiles
 pub mod TellingApart

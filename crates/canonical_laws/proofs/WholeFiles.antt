@@ -29,8 +29,9 @@ use Rattle.canonical_laws.proofs.FrameEntries.{AreNeeded, frames-needed, none-ne
 use Rattle.canonical_laws.proofs.FileEnds.{end-place}
 use Rattle.canonical_laws.proofs.ClosingParts.{past_closing, Closes, past-table, told_bytes, told_seek}
 use Rattle.canonical_laws.proofs.ClosingParts.{ends-file}
-use Rattle.canonical_laws.proofs.ClosingParts.{all_items, after_closing, closing-stands, closing-frames}
+use Rattle.canonical_laws.proofs.ClosingParts.{all_items, after_closing, closing-stands}
 use Rattle.canonical_laws.proofs.ClosingsBack.{closing-back}
+use Rattle.canonical_laws.proofs.ClosingBrings.{closing-frames}
 
 -- ---- the head
 
