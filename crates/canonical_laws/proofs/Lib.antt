@@ -23,3 +23,4 @@ pub mod ClosingsBack
 pub mod WholeFiles
 pub mod TellingApart
 pub mod OpenPrefixes
+pub mod TableStates

@@ -1,5 +1,5 @@
 -- The laws of contents and canonical files.
-use Rattle.std.specs.Prelude.{◌≡◌, ◌≤◌, ◌↔◌, ℕ, false, List, [], ◌∷◌, length, map, take, All}
+use Rattle.std.specs.Prelude.{◌≡◌, ◌≢◌, ◌≤◌, ◌↔◌, ℕ, false, List, [], length, map, take, All}
 use Rattle.std.specs.List.{AllByRecursion, AllZip}
 use Rattle.scalar_types.specs.declared.Order.{Order}
 use Rattle.scalar_types.specs.declared.Order.TheVariants.{Little}
@@ -10,7 +10,6 @@ use Rattle.file_grammar.specs.Item.{Item, Before}
 use Rattle.file_grammar.specs.MayStand.{frames_limit, Begins, IsWellFormed}
 use Rattle.file_grammar.specs.Laws.{WellFormed}
 use Rattle.frame_content.specs.Frames.{Frame}
-use Rattle.file_content.specs.declared.state.TableState.{TableState}
 use Rattle.file_content.specs.declared.state.TableState.TheVariants as state
 use Rattle.file_content.specs.declared.contents.Contents.{Contents}
 use Rattle.file_content.specs.Contents.{AreContents}
@@ -40,19 +39,23 @@ WrittenFilesAreReadBack =
     → length frames ≤ frames_limit → length (canonical_file closing frames) ≤ file_limit
     → ReadsBack (canonical_file closing frames) closing frames
 
--- the state of a table by the bytes of its record
-abbrev pub state_by : List ℕ → TableState
-state_by [] = state.None
-state_by (b ∷ bytes) = state.Good
+-- The contents table of such a file is none where its record is not written.
+abbrev pub UnwrittenTablesAreNone : Type 0
+UnwrittenTablesAreNone =
+    (dictionary : List Entry) (frames : List Frame) (closing : Closing) (c : Contents) → IsDictionary dictionary
+    → AllByRecursion (IsWritableFrame dictionary) frames → IsWritableClosing dictionary closing
+    → length frames ≤ frames_limit → length (canonical_file closing frames) ≤ file_limit
+    → AreContents (canonical_file closing frames) c
+    → (table_piece (after_frames begun frames) closing).record_itself ≡ [] → c.table ≡ state.None
 
--- The contents table of such a file is good where its record is written, and else there is none.
+-- Where it is written, the table is good.
 abbrev pub CanonicalTablesAreGood : Type 0
 CanonicalTablesAreGood =
     (dictionary : List Entry) (frames : List Frame) (closing : Closing) (c : Contents) → IsDictionary dictionary
     → AllByRecursion (IsWritableFrame dictionary) frames → IsWritableClosing dictionary closing
     → length frames ≤ frames_limit → length (canonical_file closing frames) ≤ file_limit
     → AreContents (canonical_file closing frames) c
-    → c.table ≡ state_by (table_piece (after_frames begun frames) closing).record_itself
+    → (table_piece (after_frames begun frames) closing).record_itself ≢ [] → c.table ≡ state.Good
 
 -- ---- contents and their canonical files
 

@@ -1,7 +1,8 @@
 //! The laws of contents and canonical files. Each is the contract of a function that does nothing: a crate
 //! that calls the function has the law.
 
-ghost use Rattle.canonical_laws.specs.Laws.{WrittenFilesAreReadBack, ContentsAreUnique};
+ghost use Rattle.canonical_laws.specs.Laws.{WrittenFilesAreReadBack, UnwrittenTablesAreNone};
+ghost use Rattle.canonical_laws.specs.Laws.{ContentsAreUnique};
 ghost use Rattle.canonical_laws.specs.Laws.{CanonicalFilesAreUnique, CanonicalFilesKeepContents};
 ghost use Rattle.canonical_laws.specs.Laws.{CanonicalFilesTellContents, CanonicalFilesStay};
 ghost use Rattle.canonical_laws.specs.Laws.{NoPrefixOfAnOpenFile, NoPrefixOfACanonicalHead};
@@ -9,6 +10,11 @@ ghost use Rattle.canonical_laws.specs.Laws.{NoPrefixOfAnOpenFile, NoPrefixOfACan
 /// A canonical file of frames and of a closing that can be written is well-formed and reads back as these.
 pub fn written_files_are_read_back()
     ensures { WrittenFilesAreReadBack }
+{}
+
+/// The contents table of such a file is none where its record is not written.
+pub fn unwritten_tables_are_none()
+    ensures { UnwrittenTablesAreNone }
 {}
 
 /// A file has one content, and a content has one canonical file.
