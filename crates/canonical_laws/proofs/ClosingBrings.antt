@@ -1,6 +1,7 @@
--- What the closing part of a canonical file brings: no frame, the contents table where its record is written, and the way
--- back to it.
-use Rattle.std.proofs.Common.{◌≡◌, ℕ, Bool, true, false, cond, Option, Some, None, List, [], ◌∷◌, ◌++◌, length, refl, ap}
+-- What the closing part of a canonical file brings: no frame, the contents table where its record is written, and the
+-- way back to it.
+use Rattle.std.proofs.Common.{◌≡◌, ℕ, Bool, true, false, cond, Option, Some, None, List, [], ◌∷◌, ◌++◌, length, refl}
+use Rattle.std.proofs.Common.{ap}
 use Rattle.std.proofs.Common.{◌∙◌, append-nil}
 use Rattle.scalar_types.specs.declared.Order.TheVariants.{Little}
 use Rattle.dictionary.specs.declared.entries.Entry.{Entry}
@@ -14,7 +15,8 @@ use Rattle.canonical_laws.proofs.WrittenRecords.{record_structure, past_entry}
 use Rattle.canonical_laws.proofs.FrameEnds.{brings, frames_from, brings-append}
 use Rattle.canonical_laws.proofs.FileEnds.{end_items, end-frames, end-tables, end-seeks}
 use Rattle.canonical_laws.proofs.TableParts.{table-stands, table-brings, table-kind}
-use Rattle.canonical_laws.proofs.ClosingParts.{table_of, fits, closing_items, past_closing, Closes, told_bytes, told_seek}
+use Rattle.canonical_laws.proofs.ClosingParts.{table_of, fits, closing_items, past_closing, Closes, told_bytes}
+use Rattle.canonical_laws.proofs.ClosingParts.{told_seek}
 use Rattle.canonical_laws.proofs.ClosingParts.{ends-file, all_items, has-table}
 
 -- the record of the table, where it stands

@@ -127,8 +127,8 @@ table-stands dictionary false file b r next may =
 -- ---- what they bring
 
 -- What the record does, where it stands.
-pub table-brings : {X : Type 0} (from : Before → Structure → List X) (dictionary : List Entry) (fits : Bool) (b : Before)
-    (r : Record) → IsWritableTable dictionary r.entry → entry_of b.dictionary r.entry.class ≡ None
+pub table-brings : {X : Type 0} (from : Before → Structure → List X) (dictionary : List Entry) (fits : Bool)
+    (b : Before) (r : Record) → IsWritableTable dictionary r.entry → entry_of b.dictionary r.entry.class ≡ None
     → class_named b.dictionary r.entry.name ≡ None
     → brings from b (table_items fits b r)
     ≡ cond fits (from (past_entry None b r.entry) (record_structure (past_entry None b r.entry).place r)) []

@@ -130,7 +130,8 @@ pub record StandsAs (fs : List Frame) (e : Entry) (table : Option Entry) : Type 
   pub seeks : brings (seek_told Little) nothing_yet (file_items fs e table)
       ≡ told_seek (after_frames begun fs) e table ∷ []
 
-pub file-stands : (dictionary : List Entry) (fs : List Frame) (e : Entry) (table : Option Entry) → AreWritten dictionary fs
+pub file-stands : (dictionary : List Entry) (fs : List Frame) (e : Entry) (table : Option Entry)
+    → AreWritten dictionary fs
     → IsWritableFileEnd dictionary e → IfSome table (IsWritableTable dictionary)
     → length (canonical_file (record { end = e; table = table }) fs) ≤ file_limit
     → StandsAs fs e table
