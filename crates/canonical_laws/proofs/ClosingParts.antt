@@ -20,20 +20,17 @@ use Rattle.canonical_file.specs.Records.{Record, record_bytes, unless_held, new_
 use Rattle.canonical_file.specs.Records.{piece_bytes}
 use Rattle.canonical_file.specs.Written.{Written, table_record, table_piece, after_table, end_bytes, end_size}
 use Rattle.canonical_file.specs.Written.{way_back}
-use Rattle.canonical_file.specs.Written.{end_part, closing_part}
+use Rattle.canonical_file.specs.Written.{closed_size, end_part, closing_part}
 use Rattle.canonical_laws.specs.Writable.{IsWritableFileEnd, IsWritableTable}
 use Rattle.canonical_laws.proofs.Holding.{Holds, holds-left, holds-right, holds-at}
 use Rattle.canonical_laws.proofs.WrittenEntries.{head_structure}
 use Rattle.canonical_laws.proofs.AgreeingEntries.{AreIn, no_name, added-in}
 use Rattle.canonical_laws.proofs.RecordsInTurn.{stand-append}
-use Rattle.canonical_laws.proofs.FrameEnds.{frames_from, frames-append}
 use Rattle.canonical_laws.proofs.WholeFrames.{IsBetween}
 use Rattle.canonical_laws.proofs.Heads.{Tells}
-use Rattle.canonical_laws.proofs.FileEnds.{AreEndNumbers, EndsFile, end_items, after_file, end-size, end-stands}
-use Rattle.canonical_laws.proofs.FileEnds.{end-frames}
+use Rattle.canonical_laws.proofs.FileEnds.{AreEndNumbers, EndsFile, end_items, after_file, end-stands}
 use Rattle.canonical_laws.proofs.FrameEntries.{AreNeeded, few-needed, not-needed}
 use Rattle.canonical_laws.proofs.TableParts.{table_bytes, table_items, past_table, table-facts, HasTable, table-stands}
-use Rattle.canonical_laws.proofs.TableParts.{table-frames}
 
 -- ---- an entry that is new
 
@@ -73,7 +70,7 @@ pub record Closes (dictionary : List Entry) (file : List ℕ) (w : Written) (b :
   pub table_is : IfSome table (IsWritableTable dictionary)
   pub limit : length file ≤ file_limit
   pub holds : Holds file b.place (closing_part w (record { end = e; table = table }))
-  pub whole : length file ≡ b.place + length (closing_part w (record { end = e; table = table }))
+  pub whole : length file ≡ closed_size (after_table w (record { end = e; table = table })) e
 
 -- What stands after the table.
 pub record PastTable (dictionary : List Entry) (w : Written) (b : Before) (e : Entry) (table : Option Entry) :
@@ -167,7 +164,7 @@ abbrev table_length : Written → Entry → Option Entry → ℕ
 table_length w e table = length (table_piece w (record { end = e; table = table })).record_itself
 
 abbrev pub told_bytes : Written → Entry → Option Entry → ℕ
-told_bytes w e table = (state w e table).size + end_size (state w e table) e
+told_bytes w e table = closed_size (state w e table) e
 
 abbrev pub told_seek : Written → Entry → Option Entry → ℕ
 told_seek w e table = way_back (end_size (state w e table) e) (table_length w e table)
@@ -179,34 +176,16 @@ end-entry : (dictionary : List Entry) (w : Written) (b : Before) (e : Entry) (ta
 end-entry dictionary w b e table past =
     ap (λ es. new_entry es e) past.tells.entries ∙ new-is (past_closing w b table).dictionary e past.class
 
--- the file ends behind it
-pub file-ends : (dictionary : List Entry) (file : List ℕ) (w : Written) (b : Before) (e : Entry) (table : Option Entry)
-    → Closes dictionary file w b e table → length file ≡ told_bytes w e table
-file-ends dictionary file w b e table may =
-    let c : Closing = record { end = e; table = table } in
-    let piece : List ℕ = piece_bytes (table_piece w c) in
-    let entry : List ℕ = new_entry (state w e table).entries e in
-    let end : List ℕ = end_bytes e w.frames (told_bytes w e table) (told_seek w e table) in
-    omega (
-      arith,
-      may.whole,
-      may.tells.size,
-      length-append piece (entry ++ end),
-      length-append entry end,
-      end-size dictionary e w.frames (told_bytes w e table) (told_seek w e table) may.end,
-    )
-
 end-numbers : (dictionary : List Entry) (file : List ℕ) (w : Written) (b : Before) (e : Entry) (table : Option Entry)
     → Closes dictionary file w b e table → AreEndNumbers w.frames (told_bytes w e table) (told_seek w e table)
 end-numbers dictionary file w b e table may =
     let c : Closing = record { end = e; table = table } in
-    let ends = file-ends dictionary file w b e table may in
     let within = way_back-within (end_size (state w e table) e) (table_length w e table) in
     let piece = length-append (table_piece w c).entry (table_piece w c).record_itself in
     record {
       few = omega (arith, may.frames);
-      short = omega (arith, ends, may.limit);
-      near = omega (arith, ends, may.limit, within, piece);
+      short = omega (arith, may.whole, may.limit);
+      near = omega (arith, may.whole, may.limit, within, piece);
     }
 
 pub ends-file : (dictionary : List Entry) (file : List ℕ) (w : Written) (b : Before) (e : Entry)
@@ -248,7 +227,7 @@ abbrev pub after_closing : Written → Before → Entry → Option Entry → Bef
 after_closing w b e table =
     after_file (past_closing w b table) e w.frames (told_bytes w e table) (told_seek w e table)
 
-has-table : (dictionary : List Entry) (file : List ℕ) (w : Written) (b : Before) (e t : Entry)
+pub has-table : (dictionary : List Entry) (file : List ℕ) (w : Written) (b : Before) (e t : Entry)
     → Closes dictionary file w b e (Some t)
     → HasTable dictionary (fits w t) file b (table_of w t)
     (head_structure (past_closing w b (Some t)).place (length (past_closing w b (Some t)).dictionary) e)
@@ -294,20 +273,3 @@ closing-stands dictionary file w b e (Some t) may =
     (end_items mid e w.frames n k)
     (table-stands dictionary (fits w t) file b (table_of w t) next (has-table dictionary file w b e t may))
     (end-stands dictionary file mid e w.frames n k (ends-file dictionary file w b e (Some t) may))
-
--- it brings no frame
-pub closing-frames : (dictionary : List Entry) (file : List ℕ) (w : Written) (b : Before) (e : Entry)
-    (table : Option Entry) → Closes dictionary file w b e table → frames_from b (all_items w b e table) ≡ []
-closing-frames dictionary file w b e None may =
-    end-frames dictionary file b e w.frames (told_bytes w e None) (told_seek w e None)
-    (ends-file dictionary file w b e None may)
-closing-frames dictionary file w b e (Some t) may =
-    let mid : Before = past_closing w b (Some t) in
-    let n : ℕ = told_bytes w e (Some t) in
-    let k : ℕ = told_seek w e (Some t) in
-    let next : Structure = head_structure mid.place (length mid.dictionary) e in
-    let has = has-table dictionary file w b e t may in
-    let stand = table-stands dictionary (fits w t) file b (table_of w t) next has in
-    frames-append file b mid (closing_items w b (Some t)) (end_items mid e w.frames n k) stand
-    ∙ (λ i. table-frames dictionary (fits w t) b (table_of w t) may.table_is has.class has.name i
-    ++ end-frames dictionary file mid e w.frames n k (ends-file dictionary file w b e (Some t) may) i)

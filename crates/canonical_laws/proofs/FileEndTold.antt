@@ -1,5 +1,4 @@
--- What the end of a file tells: its values fit its layout, take as many bytes whatever they are, and are read under
--- their names.
+-- What the end of a file tells: its values fit its layout, are small, and are read under their names.
 use Rattle.std.proofs.Common.{◌≡◌, ℕ, ◌+◌, ◌^◌, ◌<◌, ◌≤◌, ◌⊎◌, inl, inr, Bool, true, false, ◌&&◌, cond, eqb, Option}
 use Rattle.std.proofs.Common.{Some, None, List, [], ◌∷◌, ◌++◌, length, codes, refl, sym, ap, ◌∙◌, subst, arith}
 use Rattle.std.proofs.Common.{length-append}
@@ -35,7 +34,6 @@ use Rattle.canonical_file.specs.Ranges.{IsInRange}
 use Rattle.canonical_file.specs.Bytes.{number_bytes}
 use Rattle.canonical_file.specs.Written.{end_told}
 use Rattle.canonical_laws.proofs.PlainFields.{form_by, value_at, plain_values, value-found, EachValue, InRange}
-use Rattle.canonical_laws.proofs.PlainFields.{value_size}
 use Rattle.canonical_laws.proofs.PlainFields.{IsSmall}
 
 -- ---- what the layout has
@@ -264,30 +262,6 @@ pub end-small : (all : List Element) (n bytes seek : ℕ) → EachValue IsSmall 
 end-small all n bytes seek =
     each-told IsSmall all n bytes seek (λ e is. num-small (form_by e) n) (λ e is. num-small (form_by e) bytes)
     (λ e is. num-small (form_by e) seek) blank-small
-
-num-same : (form : Form) (n m : ℕ) → value_size form (value.Num n) ≡ value_size form (value.Num m)
-num-same (Number width) n m = number-size width n ∙ sym (number-size width m)
-num-same (Pair width) n m = refl
-num-same Text n m = refl
-num-same Link n m = refl
-
--- as many, whatever is told
-pub same-size : (all : List Element) (n bytes seek n' bytes' seek' k : ℕ) (e : Element)
-    → value_size (form_by e) (value_at (end_told all n bytes seek) k e)
-    ≡ value_size (form_by e) (value_at (end_told all n' bytes' seek') k e)
-same-size all n bytes seek n' bytes' seek' k e =
-    ap (value_size (form_by e)) (told-is all n bytes seek k e)
-    ∙ by (eqb (field_named all (codes "nFrames")) k) (eqb (field_named all (codes "nBytes")) k)
-    (eqb (field_named all (codes "seekTOC")) k)
-    ∙ sym (ap (value_size (form_by e)) (told-is all n' bytes' seek' k e))
-  where
-    by : (x y z : Bool)
-        → value_size (form_by e) (told_by n bytes seek x y z (blank_single (form_by e)))
-        ≡ value_size (form_by e) (told_by n' bytes' seek' x y z (blank_single (form_by e)))
-    by true y z = num-same (form_by e) n n'
-    by false true z = num-same (form_by e) bytes bytes'
-    by false false true = num-same (form_by e) seek seek'
-    by false false false = refl
 
 -- ---- it is read under its names
 

@@ -1,8 +1,9 @@
 -- The end of a canonical file: the entry of FrEndOfFile and its record.
 use Rattle.std.proofs.Common.{◌≡◌, ℕ, ◌+◌, ◌^◌, ◌<◌, ◌≤◌, true, false, Some, None, List, [], ◌∷◌, ◌++◌, length, map}
-use Rattle.std.proofs.Common.{codes, refl, sym, ap, ◌∙◌, subst, arith, inr}
+use Rattle.std.proofs.Common.{codes, refl, sym, ap, ◌∙◌, subst, arith, inr, append-nil}
 use Rattle.std.specs.Prelude.{unwrap_or}
 use Rattle.std.specs.List.{AllByRecursion}
+use Rattle.std.specs.Option.{option_map_or}
 use Rattle.scalar_types.specs.declared.Order.TheVariants.{Little}
 use Rattle.record_values.specs.declared.values.Value.{Value}
 use Rattle.dictionary.specs.declared.entries.Element.{Element}
@@ -15,28 +16,30 @@ use Rattle.file_grammar.specs.declared.kind.Kind.{Kind}
 use Rattle.file_grammar.specs.declared.kind.Kind.TheVariants.{FrEndOfFile}
 use Rattle.file_grammar.specs.Structure.{Structure, end_of, record_limit, file_limit, StandsWhole}
 use Rattle.file_grammar.specs.Kind.{kind_of}
-use Rattle.file_grammar.specs.Record.{weight_of}
+use Rattle.file_grammar.specs.Record.{values_of, weight_of}
 use Rattle.file_grammar.specs.Closing.{number_named}
 use Rattle.file_grammar.specs.Item.{Item, OtherItem, Before, after_kind}
 use Rattle.file_grammar.specs.MayStand.{FileEndMayStand, KindMayStand, MayStand, Stand}
 use Rattle.item_reader.proofs.Growing.{entry_of-own}
 use Rattle.contents_table.specs.Told.{values_told}
-use Rattle.file_content.specs.Stored.{frame_of_kind, frame_ended}
+use Rattle.file_content.specs.Stored.{frame_of_kind, frame_ended, table_of_kind, table_here, elements_of, seek_of_kind}
+use Rattle.file_content.specs.Stored.{seek_told}
 use Rattle.canonical_file.specs.Ranges.{IsInRange}
 use Rattle.canonical_file.specs.Bytes.{body_bytes, entry_bytes}
 use Rattle.canonical_file.specs.Records.{Record, entry_fields}
 use Rattle.canonical_file.specs.Written.{end_told, end_bytes}
+use Rattle.canonical_file.proofs.EndSizes.{end-length}
 use Rattle.canonical_laws.specs.Writable.{IsWritable, IsWritableFileEnd}
 use Rattle.canonical_laws.proofs.Holding.{Holds, holds-left, holds-right, length-structure}
 use Rattle.canonical_laws.proofs.WrittenRecords.{record_structure, record-size, record-stands, record-reads}
 use Rattle.canonical_laws.proofs.WrittenRecords.{reading_back}
-use Rattle.canonical_laws.proofs.WrittenRecords.{kind-held, past_entry, entry_item, entry-after}
+use Rattle.canonical_laws.proofs.WrittenRecords.{values-read, kind-held, past_entry, entry_item, entry-after}
 use Rattle.canonical_laws.proofs.WrittenRecords.{entry-may_stand}
 use Rattle.canonical_laws.proofs.PlainFields.{plain_fields, layout-plain, plain_values, values-plain, fits-plain}
 use Rattle.canonical_laws.proofs.PlainFields.{range-plain}
-use Rattle.canonical_laws.proofs.PlainFields.{size-plain, same_size-plain}
-use Rattle.canonical_laws.proofs.FileEndTold.{closes-parts, end-fits, end-range, end-small, same-size, end-told}
-use Rattle.canonical_laws.proofs.FrameEnds.{frames_from}
+use Rattle.canonical_laws.proofs.PlainFields.{size-plain}
+use Rattle.canonical_laws.proofs.FileEndTold.{closes-parts, end-fits, end-range, end-small, end-told}
+use Rattle.canonical_laws.proofs.FrameEnds.{brings, frames_from}
 
 -- the record, and what it tells
 abbrev pub end_values : Entry → ℕ → ℕ → ℕ → List Value
@@ -68,22 +71,6 @@ body dictionary e n bytes seek w =
     λ i. body_bytes (fields dictionary e w i) (values dictionary e n bytes seek w i)
 
 -- ---- its size
-
--- its bytes are as many whatever it tells
-pub end-size : (dictionary : List Entry) (e : Entry) (n bytes seek : ℕ) → IsWritableFileEnd dictionary e
-    → length (end_bytes e n bytes seek) ≡ length (end_bytes e 0 0 0)
-end-size dictionary e n bytes seek w =
-    let all : List Element = e.elements in
-    let same = same_size-plain (end_told all n bytes seek) (end_told all 0 0 0) 0 all
-    (same-size all n bytes seek 0 0 0) in
-    omega (
-      arith,
-      length-structure e.class 0 (body_bytes (entry_fields e) (end_values e n bytes seek)),
-      length-structure e.class 0 (body_bytes (entry_fields e) (end_values e 0 0 0)),
-      ap length (body dictionary e n bytes seek w),
-      ap length (body dictionary e 0 0 0 w),
-      same,
-    )
 
 end-short : (dictionary : List Entry) (e : Entry) (n bytes seek : ℕ) → IsWritableFileEnd dictionary e
     → length (end_bytes e n bytes seek) ≤ record_limit
@@ -166,7 +153,7 @@ end-place dictionary file b e n bytes seek may =
       arith,
       may.ends,
       record-size (past_entry None b e).place (file_end e n bytes seek),
-      end-size dictionary e n bytes seek may.writable,
+      end-length e n bytes seek may.writable.closes,
     )
 
 end-may : (dictionary : List Entry) (file : List ℕ) (b : Before) (e : Entry) (n bytes seek : ℕ)
@@ -225,13 +212,56 @@ end-stands dictionary file b e n bytes seek may =
     let Q : Before → Type 0 = λ x. Stand Little file x (OtherItem s ∷ []) (after_file b e n bytes seek) in
     (first, subst Q (sym (entry-after b e w.entry may.class may.name)) (second, last))
 
--- it ends no frame
+-- ---- what they bring
+
+-- What the record does.
+end-brings : {X : Type 0} (from : Before → Structure → List X) (dictionary : List Entry) (file : List ℕ) (b : Before)
+    (e : Entry) (n bytes seek : ℕ) → EndsFile dictionary file b e n bytes seek
+    → brings from b (end_items b e n bytes seek) ≡ from (past_entry None b e) (end_structure b e n bytes seek)
+end-brings from dictionary file b e n bytes seek may =
+    let s : Structure = end_structure b e n bytes seek in
+    ap (λ x. from x s ++ []) (entry-after b e may.writable.entry may.class may.name)
+    ∙ append-nil (from (past_entry None b e) s)
+
+-- the record is of its kind
+end-kind : (dictionary : List Entry) (file : List ℕ) (b : Before) (e : Entry) (n bytes seek : ℕ)
+    → EndsFile dictionary file b e n bytes seek → kind_of (past_entry None b e).dictionary e.class ≡ FrEndOfFile
+end-kind dictionary file b e n bytes seek may =
+    let w = may.writable in
+    kind-held (past_entry None b e).dictionary e w.entry.low (entry_of-own b.dictionary e may.class) ∙ w.kind
+
+-- no frame, and no contents table
 pub end-frames : (dictionary : List Entry) (file : List ℕ) (b : Before) (e : Entry) (n bytes seek : ℕ)
     → EndsFile dictionary file b e n bytes seek → frames_from b (end_items b e n bytes seek) ≡ []
 end-frames dictionary file b e n bytes seek may =
+    let next : Before = past_entry None b e in
+    end-brings frame_ended dictionary file b e n bytes seek may
+    ∙ ap (λ k. frame_of_kind k next (end_structure b e n bytes seek)) (end-kind dictionary file b e n bytes seek may)
+
+pub end-tables : (dictionary : List Entry) (file : List ℕ) (b : Before) (e : Entry) (n bytes seek : ℕ)
+    → EndsFile dictionary file b e n bytes seek → brings table_here b (end_items b e n bytes seek) ≡ []
+end-tables dictionary file b e n bytes seek may =
+    let next : Before = past_entry None b e in
+    end-brings table_here dictionary file b e n bytes seek may
+    ∙ ap (λ k. table_of_kind k next (end_structure b e n bytes seek)) (end-kind dictionary file b e n bytes seek may)
+
+-- the way back to the table
+pub end-seeks : (dictionary : List Entry) (file : List ℕ) (b : Before) (e : Entry) (n bytes seek : ℕ)
+    → EndsFile dictionary file b e n bytes seek
+    → brings (seek_told Little) b (end_items b e n bytes seek) ≡ seek ∷ []
+end-seeks dictionary file b e n bytes seek may =
     let w = may.writable in
     let next : Before = past_entry None b e in
     let s : Structure = end_structure b e n bytes seek in
     let held : entry_of next.dictionary e.class ≡ Some e = entry_of-own b.dictionary e may.class in
-    ap (λ x. frame_ended x s ++ []) (entry-after b e w.entry may.class may.name)
-    ∙ ap (λ k. frame_of_kind k next s ++ []) (kind-held next.dictionary e w.entry.low held ∙ w.kind)
+    let writable = end-writable dictionary e n bytes seek w may.numbers in
+    let read : values_of Little next.dictionary s ≡ end_values e n bytes seek =
+    values-read next.dictionary next.place (file_end e n bytes seek) writable held in
+    let told = end-told e.elements n bytes seek (closes-parts e.elements w.closes) in
+    let elements : elements_of next.dictionary e.class ≡ e.elements =
+    ap (λ o. option_map_or (λ (x : Entry). x.elements) o []) held in
+    end-brings (seek_told Little) dictionary file b e n bytes seek may
+    ∙ ap (λ k. seek_of_kind Little k next s) (end-kind dictionary file b e n bytes seek may)
+    ∙ (λ i. number_named (elements i) (read i) (codes "seekTOC") ∷ [])
+    ∙ ap (λ vs. number_named e.elements vs (codes "seekTOC") ∷ []) (values dictionary e n bytes seek w)
+    ∙ ap (λ m. m ∷ []) told.seek_is

@@ -1,7 +1,9 @@
 -- The end record of a frame, and the frames that items bring.
-use Rattle.std.proofs.Common.{◌≡◌, ℕ, ◌+◌, ◌<◌, ◌≤◌, false, Option, Some, None, List, [], ◌∷◌, ◌++◌, length, map, refl}
+use Rattle.std.proofs.Common.{◌≡◌, ℕ, ◌+◌, ◌<◌, ◌≤◌, Bool, true, false, Option, Some, None, List, [], ◌∷◌, ◌++◌}
+use Rattle.std.proofs.Common.{length, map, refl}
 use Rattle.std.proofs.Common.{sym}
 use Rattle.std.proofs.Common.{ap, ◌∙◌, subst, append_assoc}
+use Rattle.std.proofs.lemmas.Bool.{false≢true}
 use Rattle.scalar_types.specs.declared.Order.TheVariants.{Little}
 use Rattle.dictionary.specs.declared.entries.Entry.{Entry}
 use Rattle.dictionary.specs.Dictionary.{entry_of}
@@ -9,13 +11,14 @@ use Rattle.file_grammar.specs.declared.kind.Kind.{Kind}
 use Rattle.file_grammar.specs.declared.kind.Kind.TheVariants.{FrSH, FrSE, FrameH, FrEndOfFrame, FrTOC, FrEndOfFile}
 use Rattle.file_grammar.specs.declared.kind.Kind.TheVariants.{Other}
 use Rattle.file_grammar.specs.Structure.{Structure, end_of, record_limit, file_limit}
-use Rattle.file_grammar.specs.Kind.{kind_named, kind_of}
+use Rattle.file_grammar.specs.Kind.{kind_named, kind_of, is_target_kind}
 use Rattle.file_grammar.specs.Record.{weight_of, AreLinked}
 use Rattle.file_grammar.specs.Item.{Item, Before, after_kind, after}
 use Rattle.file_grammar.specs.MayStand.{frames_limit, RecordMayStand, HasHeader, KindMayStand, Stand}
 use Rattle.item_reader.specs.State.{bodied_of}
 use Rattle.canonical_file.specs.Records.{Record, record_bytes}
-use Rattle.file_content.specs.Stored.{StoredFrame, brought, brought_in, frame_of_kind, frame_ended}
+use Rattle.file_content.specs.Stored.{StoredFrame, brought, brought_in, frame_of_kind, frame_ended, table_of_kind}
+use Rattle.file_content.specs.Stored.{table_here, seek_of_kind, seek_told}
 use Rattle.canonical_laws.specs.Writable.{IsWritableEntry, IsWritable}
 use Rattle.canonical_laws.proofs.Holding.{Holds}
 use Rattle.canonical_laws.proofs.WrittenRecords.{record_structure, record-stands, kind-held, IsRowKind}
@@ -68,46 +71,96 @@ end-stands file b r w may limit h =
 
 -- ---- what items bring
 
--- The frames of items, by what stands before them.
+-- What items bring, by what stands before each; and their frames.
+abbrev pub brings : {X : Type 0} → (Before → Structure → List X) → Before → List Item → List X
+brings from b items = brought_in from Little b items
+
 abbrev pub frames_from : Before → List Item → List StoredFrame
-frames_from b items = brought_in frame_ended Little b items
+frames_from b items = brings frame_ended b items
 
-pub frames-append : (file : List ℕ) (b mid : Before) (items more : List Item) → Stand Little file b items mid
-    → frames_from b (items ++ more) ≡ frames_from b items ++ frames_from mid more
-frames-append file b mid [] more stand = ap (λ x. frames_from x more) (sym stand)
-frames-append file b mid (item ∷ items) more stand =
+pub brings-append : {X : Type 0} (from : Before → Structure → List X) (file : List ℕ) (b mid : Before)
+    (items more : List Item) → Stand Little file b items mid
+    → brings from b (items ++ more) ≡ brings from b items ++ brings from mid more
+brings-append from file b mid [] more stand = ap (λ x. brings from x more) (sym stand)
+brings-append from file b mid (item ∷ items) more stand =
     let next : Before = after Little b item in
-    ap (λ fs. brought frame_ended b item ++ fs) (frames-append file next mid items more stand.1)
-    ∙ sym (append_assoc (brought frame_ended b item) (frames_from next items) (frames_from mid more))
+    ap (λ xs. brought from b item ++ xs) (brings-append from file next mid items more stand.1)
+    ∙ sym (append_assoc (brought from b item) (brings from next items) (brings from mid more))
 
--- those of a record with its entry are those of the record
-pub frames-by : (o : Option Entry) (b : Before) (r : Record) → IsWritableEntry r.entry
-    → entry_of b.dictionary r.entry.class ≡ o → Agrees o b.dictionary r.entry
-    → frames_from b (items_by o b r)
-    ≡ frame_ended (past_entry o b r.entry) (record_structure (past_entry o b r.entry).place r) ++ []
-frames-by (Some old) b r w is agrees =
+-- a record with its entry brings what the record does
+pub brings-by : {X : Type 0} (from : Before → Structure → List X) (o : Option Entry) (b : Before) (r : Record)
+    → IsWritableEntry r.entry → entry_of b.dictionary r.entry.class ≡ o → Agrees o b.dictionary r.entry
+    → brings from b (items_by o b r)
+    ≡ from (past_entry o b r.entry) (record_structure (past_entry o b r.entry).place r) ++ []
+brings-by from (Some old) b r w is agrees =
     let s : Structure = record_structure (past_entry (Some old) b r.entry).place r in
-    ap (λ x. frame_ended x s ++ []) (sym (past-held old b r.entry))
-frames-by None b r w is agrees =
+    ap (λ x. from x s ++ []) (sym (past-held old b r.entry))
+brings-by from None b r w is agrees =
     let s : Structure = record_structure (past_entry None b r.entry).place r in
-    ap (λ x. frame_ended x s ++ []) (entry-after b r.entry w is agrees)
+    ap (λ x. from x s ++ []) (entry-after b r.entry w is agrees)
+
+-- ---- what records do not bring
+
+-- structures of kinds that pass bring nothing
+abbrev pub BringsNone : {X : Type 0} → (Kind → Bool) → (Before → Structure → List X) → Type 0
+BringsNone passes from =
+    (b : Before) (s : Structure) → passes (kind_of b.dictionary s.class) ≡ true → from b s ≡ []
 
 -- a row ends no frame
-row-no_end : (kind : Kind) (b : Before) (s : Structure) → IsRowKind kind b → frame_of_kind kind b s ≡ []
-row-no_end Other b s is = refl
-row-no_end FrameH b s is = refl
-row-no_end FrEndOfFrame b s is = absurd is
-row-no_end FrTOC b s is = absurd is
-row-no_end FrEndOfFile b s is = absurd is
-row-no_end FrSH b s is = absurd is
-row-no_end FrSE b s is = absurd is
+pub rows-end_none : BringsNone is_target_kind frame_ended
+rows-end_none b s is = by (kind_of b.dictionary s.class) is
+  where
+    by : (kind : Kind) → is_target_kind kind ≡ true → frame_of_kind kind b s ≡ []
+    by Other is = refl
+    by FrameH is = refl
+    by FrEndOfFrame is = absurd (false≢true is)
+    by FrTOC is = refl
+    by FrEndOfFile is = refl
+    by FrSH is = refl
+    by FrSE is = refl
 
-pub row-frames : (b : Before) (at : ℕ) (r : Record) → 3 ≤ r.entry.class
-    → entry_of b.dictionary r.entry.class ≡ Some r.entry → IsRowKind (kind_named r.entry.name) b
-    → frame_ended b (record_structure at r) ≡ []
-row-frames b at r low held kind =
-    ap (λ k. frame_of_kind k b (record_structure at r)) (kind-held b.dictionary r.entry low held)
-    ∙ row-no_end (kind_named r.entry.name) b (record_structure at r) kind
+-- nor is it a contents table
+pub rows-no_table : BringsNone is_target_kind table_here
+rows-no_table b s is = by (kind_of b.dictionary s.class) is
+  where
+    by : (kind : Kind) → is_target_kind kind ≡ true → table_of_kind kind b s ≡ []
+    by Other is = refl
+    by FrameH is = refl
+    by FrEndOfFrame is = refl
+    by FrTOC is = absurd (false≢true is)
+    by FrEndOfFile is = refl
+    by FrSH is = refl
+    by FrSE is = refl
+
+-- nor tells it of one
+pub rows-no_seek : BringsNone is_target_kind (seek_told Little)
+rows-no_seek b s is = by (kind_of b.dictionary s.class) is
+  where
+    by : (kind : Kind) → is_target_kind kind ≡ true → seek_of_kind Little kind b s ≡ []
+    by Other is = refl
+    by FrameH is = refl
+    by FrEndOfFrame is = refl
+    by FrTOC is = refl
+    by FrEndOfFile is = absurd (false≢true is)
+    by FrSH is = refl
+    by FrSE is = refl
+
+row-kind : (kind : Kind) (b : Before) → IsRowKind kind b → is_target_kind kind ≡ true
+row-kind Other b is = refl
+row-kind FrameH b is = refl
+row-kind FrEndOfFrame b is = absurd is
+row-kind FrTOC b is = absurd is
+row-kind FrEndOfFile b is = absurd is
+row-kind FrSH b is = absurd is
+row-kind FrSE b is = absurd is
+
+-- a row brings nothing
+pub row-brings : {X : Type 0} (from : Before → Structure → List X) → BringsNone is_target_kind from → (b : Before)
+    (at : ℕ) (r : Record) → 3 ≤ r.entry.class → entry_of b.dictionary r.entry.class ≡ Some r.entry
+    → IsRowKind (kind_named r.entry.name) b → from b (record_structure at r) ≡ []
+row-brings from none b at r low held kind =
+    none b (record_structure at r)
+    (ap is_target_kind (kind-held b.dictionary r.entry low held) ∙ row-kind (kind_named r.entry.name) b kind)
 
 -- the frame that an end record ends
 abbrev pub stored_frame : Before → Structure → StoredFrame
@@ -116,9 +169,3 @@ stored_frame b s = record {
   nodes = map (bodied_of b.dictionary) b.frame;
   end = bodied_of b.dictionary s;
 }
-
-pub end-frames : (b : Before) (at : ℕ) (r : Record) → 3 ≤ r.entry.class
-    → entry_of b.dictionary r.entry.class ≡ Some r.entry → kind_named r.entry.name ≡ FrEndOfFrame
-    → frame_ended b (record_structure at r) ≡ stored_frame b (record_structure at r) ∷ []
-end-frames b at r low held kind =
-    ap (λ k. frame_of_kind k b (record_structure at r)) (kind-held b.dictionary r.entry low held ∙ kind)

@@ -1,7 +1,7 @@
 -- The parts of frames one after another are those frames of the file.
 use Rattle.std.proofs.Common.{◌≡◌, ℕ, ◌+◌, ◌^◌, ◌<◌, ◌≤◌, List, [], ◌∷◌, ◌++◌, length, map, fold, flat_map, refl, sym}
 use Rattle.std.proofs.Common.{ap}
-use Rattle.std.proofs.Common.{◌∙◌, subst, arith, add-zero, length-append}
+use Rattle.std.proofs.Common.{◌∙◌, subst, arith, add-zero}
 use Rattle.std.specs.List.{AllByRecursion}
 use Rattle.std.proofs.lemmas.List.{map-append}
 use Rattle.scalar_types.specs.declared.Order.TheVariants.{Little}
@@ -13,12 +13,13 @@ use Rattle.file_grammar.specs.MayStand.{frames_limit, Stand}
 use Rattle.frame_content.specs.Frames.{Frame}
 use Rattle.canonical_file.specs.Records.{records_of, entries_after}
 use Rattle.canonical_file.specs.Written.{Written, frame_part, after_frame, after_frames, frame_parts}
+use Rattle.file_content.specs.Stored.{frame_ended, table_here, seek_told}
 use Rattle.file_content.specs.Contents.{content_frame}
 use Rattle.canonical_laws.specs.Writable.{IsWritableFrame, as_read}
 use Rattle.canonical_laws.proofs.Holding.{Holds, holds-left, holds-right, holds-at}
 use Rattle.canonical_laws.proofs.AgreeingEntries.{entries-longer}
 use Rattle.canonical_laws.proofs.RecordsInTurn.{stand-append, bytes_of}
-use Rattle.canonical_laws.proofs.FrameEnds.{frames_from, frames-append}
+use Rattle.canonical_laws.proofs.FrameEnds.{brings, frames_from, brings-append}
 use Rattle.canonical_laws.proofs.WholeFrames.{IsBetween, after_end, frame_items, FrameStands, frame-stands}
 
 -- What is written tells what stands before a place.
@@ -44,7 +45,7 @@ read_from b items = map (content_frame Little) (frames_from b items)
 pub read-append : (file : List ℕ) (b mid : Before) (items more : List Item) → Stand Little file b items mid
     → read_from b (items ++ more) ≡ read_from b items ++ read_from mid more
 read-append file b mid items more stand =
-    ap (map (content_frame Little)) (frames-append file b mid items more stand)
+    ap (map (content_frame Little)) (brings-append frame_ended file b mid items more stand)
     ∙ map-append (content_frame Little) (frames_from b items) (frames_from mid more)
 
 -- The frames stand, are those of their items, and the state after them tells what stands before the place after them.
@@ -54,6 +55,8 @@ pub record HeadStands (dictionary : List Entry) (file : List ℕ) (w : Written) 
   pub frames : read_from b (frames_items b fs) ≡ map as_read fs
   pub between : IsBetween dictionary (after_all b fs)
   pub tells : Tells (after_frames w fs) (after_all b fs)
+  pub tables : brings table_here b (frames_items b fs) ≡ []
+  pub seeks : brings (seek_told Little) b (frames_items b fs) ≡ []
 
 -- entries are never fewer
 frames-longer : (w : Written) (fs : List Frame) → length w.entries ≤ length (after_frames w fs).entries
@@ -65,7 +68,7 @@ pub head-stands : (dictionary : List Entry) (file : List ℕ) (w : Written) (b :
     → b.frames + length fs ≤ frames_limit → length (after_frames w fs).entries < 256 ^ 4 → length file ≤ file_limit
     → Holds file b.place (part_bytes w fs) → HeadStands dictionary file w b fs
 head-stands dictionary file w b [] sound all between tells few_frames few limit h =
-    record { stand = refl; frames = refl; between = between; tells = tells }
+    record { stand = refl; frames = refl; between = between; tells = tells; tables = refl; seeks = refl }
 head-stands dictionary file w b (f ∷ fs) sound all between tells few_frames few limit h =
     let part : List ℕ = frame_part w f in
     let more : List ℕ = part_bytes (after_frame w f) fs in
@@ -99,17 +102,11 @@ head-stands dictionary file w b (f ∷ fs) sound all between tells few_frames fe
           ∙ (λ i. one.frames i ++ rest.frames i);
       between = rest.between;
       tells = rest.tells;
+      tables = brings-append table_here file b next (frame_items b f) (frames_items next fs) one.stand
+          ∙ (λ i. one.tables i ++ rest.tables i);
+      seeks = brings-append (seek_told Little) file b next (frame_items b f) (frames_items next fs) one.stand
+          ∙ (λ i. one.seeks i ++ rest.seeks i);
     }
-
--- the size that is told is that of the parts
-pub size-parts : (w : Written) (fs : List Frame) → (after_frames w fs).size ≡ w.size + length (part_bytes w fs)
-size-parts w [] = sym (add-zero w.size)
-size-parts w (f ∷ fs) =
-    omega (
-      arith,
-      size-parts (after_frame w f) fs,
-      length-append (frame_part w f) (part_bytes (after_frame w f) fs),
-    )
 
 pub count-frames : (w : Written) (fs : List Frame) → (after_frames w fs).frames ≡ w.frames + length fs
 count-frames w [] = sym (add-zero w.frames)

@@ -34,10 +34,11 @@ pub mod FileEnds
 pub mod FrameEntries
 pub mod TableParts
 pub mod ClosingParts
+pub mod ClosingBrings
 pub mod ClosingsBack
 pub mod WholeFiles
 pub mod TellingApart
 pub mod FramesCounted
 pub mod Sources
 pub mod KeptContents
-pub mod OpenPrefixes
+pub mod TableStates

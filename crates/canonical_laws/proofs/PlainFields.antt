@@ -157,20 +157,3 @@ size-plain told k (e ∷ es) each =
       rest,
       length-append (value_bytes (form_by e) v) (body_bytes (plain_fields es) (plain_values told (k + 1) es)),
     )
-
--- as many, where each value is
-pub same_size-plain : (told other : List (ℕ × Value)) (k : ℕ) (es : List Element)
-    → ((n : ℕ) (e : Element) → value_size (form_by e) (value_at told n e) ≡ value_size (form_by e) (value_at other n e))
-    → length (body_bytes (plain_fields es) (plain_values told k es))
-    ≡ length (body_bytes (plain_fields es) (plain_values other k es))
-same_size-plain told other k [] same = refl
-same_size-plain told other k (e ∷ es) same =
-    let v : Value = value_at told k e in
-    let w : Value = value_at other k e in
-    omega (
-      arith,
-      same k e,
-      same_size-plain told other (k + 1) es same,
-      length-append (value_bytes (form_by e) v) (body_bytes (plain_fields es) (plain_values told (k + 1) es)),
-      length-append (value_bytes (form_by e) w) (body_bytes (plain_fields es) (plain_values other (k + 1) es)),
-    )

@@ -12,7 +12,6 @@ use Rattle.file_grammar.specs.Record.{weight_of}
 use Rattle.file_grammar.specs.Item.{Item, OtherItem, Before, after_kind}
 use Rattle.file_grammar.specs.MayStand.{KindMayStand, MayStand, Stand}
 use Rattle.item_reader.proofs.Growing.{entry_of-own}
-use Rattle.file_content.specs.Stored.{frame_of_kind, frame_ended}
 use Rattle.canonical_file.specs.Bytes.{entry_bytes}
 use Rattle.canonical_file.specs.Records.{Record, record_bytes}
 use Rattle.canonical_laws.specs.Writable.{IsWritableTable}
@@ -20,7 +19,7 @@ use Rattle.canonical_laws.proofs.Holding.{Holds, holds-left, holds-right, length
 use Rattle.canonical_laws.proofs.WrittenRecords.{record_body, record_structure, record-size, kind-held, past_entry}
 use Rattle.canonical_laws.proofs.WrittenRecords.{entry_item}
 use Rattle.canonical_laws.proofs.WrittenRecords.{record_item, entry-after, entry-may_stand}
-use Rattle.canonical_laws.proofs.FrameEnds.{frames_from}
+use Rattle.canonical_laws.proofs.FrameEnds.{brings}
 
 -- the bytes of the record, where there is one
 abbrev pub table_bytes : Bool → Record → List ℕ
@@ -125,15 +124,23 @@ table-stands dictionary false file b r next may =
       sym (entry-after b r.entry w.entry may.class may.name),
     )
 
--- it ends no frame
-pub table-frames : (dictionary : List Entry) (fits : Bool) (b : Before) (r : Record)
-    → IsWritableTable dictionary r.entry
-    → entry_of b.dictionary r.entry.class ≡ None → class_named b.dictionary r.entry.name ≡ None
-    → frames_from b (table_items fits b r) ≡ []
-table-frames dictionary true b r w class name =
+-- ---- what they bring
+
+-- What the record does, where it stands.
+pub table-brings : {X : Type 0} (from : Before → Structure → List X) (dictionary : List Entry) (fits : Bool)
+    (b : Before) (r : Record) → IsWritableTable dictionary r.entry → entry_of b.dictionary r.entry.class ≡ None
+    → class_named b.dictionary r.entry.name ≡ None
+    → brings from b (table_items fits b r)
+    ≡ cond fits (from (past_entry None b r.entry) (record_structure (past_entry None b r.entry).place r)) []
+table-brings from dictionary true b r w class name =
     let mid : Before = past_entry None b r.entry in
     let s : Structure = record_structure mid.place r in
-    let held : entry_of mid.dictionary r.entry.class ≡ Some r.entry = entry_of-own b.dictionary r.entry class in
-    ap (λ x. frame_ended x s ++ []) (entry-after b r.entry w.entry class name)
-    ∙ ap (λ k. frame_of_kind k mid s ++ []) (kind-held mid.dictionary r.entry w.entry.low held ∙ w.kind)
-table-frames dictionary false b r w class name = refl
+    ap (λ x. from x s ++ []) (entry-after b r.entry w.entry class name) ∙ append-nil (from mid s)
+table-brings from dictionary false b r w class name = refl
+
+-- the record is of its kind
+pub table-kind : (dictionary : List Entry) (b : Before) (r : Record) → IsWritableTable dictionary r.entry
+    → entry_of b.dictionary r.entry.class ≡ None → kind_of (past_entry None b r.entry).dictionary r.entry.class ≡ FrTOC
+table-kind dictionary b r w class =
+    kind-held (past_entry None b r.entry).dictionary r.entry w.entry.low (entry_of-own b.dictionary r.entry class)
+    ∙ w.kind

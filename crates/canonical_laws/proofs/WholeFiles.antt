@@ -13,23 +13,27 @@ use Rattle.file_grammar.specs.Structure.{file_limit}
 use Rattle.file_grammar.specs.Item.{Item, Before, nothing_yet}
 use Rattle.file_grammar.specs.MayStand.{frames_limit, IsWellFormed}
 use Rattle.frame_content.specs.Frames.{Frame}
+use Rattle.file_content.specs.Stored.{table_here, seek_told}
 use Rattle.canonical_file.specs.declared.closing.Closing.{Closing}
 use Rattle.canonical_file.specs.Written.{Written, begun, after_frames, after_table, closing_part, canonical_head}
 use Rattle.canonical_file.specs.Written.{canonical_file}
+use Rattle.canonical_file.proofs.Sizes.{head-size, file-size}
 use Rattle.canonical_laws.specs.Content.{closing_by}
 use Rattle.canonical_laws.specs.Writable.{IsWritableFrame, as_read, IsWritableFileEnd, IsWritableTable}
 use Rattle.canonical_laws.specs.Laws.{ReadsBack, WrittenFilesAreReadBack}
 use Rattle.canonical_laws.proofs.Holding.{Holds}
 use Rattle.canonical_laws.proofs.RecordsInTurn.{stand-append}
+use Rattle.canonical_laws.proofs.FrameEnds.{brings, brings-append}
 use Rattle.canonical_laws.proofs.WholeFrames.{IsBetween}
 use Rattle.canonical_laws.proofs.Heads.{Tells, part_bytes, after_all, frames_items, read_from, read-append, HeadStands}
-use Rattle.canonical_laws.proofs.Heads.{head-stands, size-parts, count-frames}
+use Rattle.canonical_laws.proofs.Heads.{head-stands, count-frames}
 use Rattle.canonical_laws.proofs.FrameEntries.{AreNeeded, frames-needed, none-needed, few-needed}
 use Rattle.canonical_laws.proofs.FileEnds.{end-place}
-use Rattle.canonical_laws.proofs.ClosingParts.{past_closing, Closes, past-table, told_bytes, told_seek, file-ends}
+use Rattle.canonical_laws.proofs.ClosingParts.{past_closing, Closes, past-table, told_bytes, told_seek}
 use Rattle.canonical_laws.proofs.ClosingParts.{ends-file}
-use Rattle.canonical_laws.proofs.ClosingParts.{all_items, after_closing, closing-stands, closing-frames}
+use Rattle.canonical_laws.proofs.ClosingParts.{all_items, after_closing, closing-stands}
 use Rattle.canonical_laws.proofs.ClosingsBack.{closing-back}
+use Rattle.canonical_laws.proofs.ClosingBrings.{written_table, closing-frames, closing-tables, closing-seeks}
 
 -- ---- the head
 
@@ -72,11 +76,6 @@ whole-head dictionary fs more all limit =
     head-stands dictionary (canonical_head fs ++ more) begun nothing_yet fs all.sound all.frames
     (nothing-between dictionary) begun-tells (omega (arith, all.few)) (omega (arith, few)) limit h
 
-pub head-length : (fs : List Frame) → length (canonical_head fs) ≡ (after_frames begun fs).size
-head-length fs =
-    let parts : List ℕ = part_bytes begun fs in
-    omega (arith, length-append header_bytes parts, header_bytes-length, size-parts begun fs)
-
 -- ---- the file
 
 closes : (dictionary : List Entry) (fs : List Frame) (e : Entry) (table : Option Entry) → AreWritten dictionary fs
@@ -90,7 +89,7 @@ closes dictionary fs e table all end table_is limit =
     let closing : List ℕ = closing_part w c in
     let head = whole-head dictionary fs closing all limit in
     let b : Before = after_all nothing_yet fs in
-    let front : length (canonical_head fs) ≡ b.place = head-length fs ∙ head.tells.size in
+    let front : length (canonical_head fs) ≡ b.place = head-size fs ∙ head.tells.size in
     record {
       sound = all.sound;
       between = head.between;
@@ -106,26 +105,36 @@ closes dictionary fs e table all end table_is limit =
         split = ap (λ xs. canonical_head fs ++ xs) (sym (append-nil closing));
         place = front;
       };
-      whole = omega (arith, length-append (canonical_head fs) closing, front);
+      whole = file-size c fs end.closes;
     }
 
--- What is known of the whole file.
-pub record StandsAs (file : List ℕ) (fs : List Frame) (entries : List Entry) : Type 0 where
-  pub items : List Item
-  pub last : Before
-  pub well_formed : IsWellFormed file Little items last
-  pub frames : read_from nothing_yet items ≡ map as_read fs
-  pub dictionary : last.dictionary ≡ entries
-
--- the entries of the whole file
+-- the entries, the items and the end of the whole file
 abbrev pub all_entries : List Frame → Closing → List Entry
 all_entries fs c = (after_table (after_frames begun fs) c).entries ++ c.end ∷ []
 
-file-stands : (dictionary : List Entry) (fs : List Frame) (e : Entry) (table : Option Entry) → AreWritten dictionary fs
+abbrev pub file_items : List Frame → Entry → Option Entry → List Item
+file_items fs e table =
+    frames_items nothing_yet fs ++ all_items (after_frames begun fs) (after_all nothing_yet fs) e table
+
+abbrev pub file_last : List Frame → Entry → Option Entry → Before
+file_last fs e table = after_closing (after_frames begun fs) (after_all nothing_yet fs) e table
+
+-- What is known of the whole file.
+pub record StandsAs (fs : List Frame) (e : Entry) (table : Option Entry) : Type 0 where
+  pub well_formed : IsWellFormed (canonical_file (record { end = e; table = table }) fs) Little
+      (file_items fs e table) (file_last fs e table)
+  pub frames : read_from nothing_yet (file_items fs e table) ≡ map as_read fs
+  pub dictionary : (file_last fs e table).dictionary ≡ all_entries fs (record { end = e; table = table })
+  pub tables : brings table_here nothing_yet (file_items fs e table)
+      ≡ written_table (after_frames begun fs) (after_all nothing_yet fs) table
+  pub seeks : brings (seek_told Little) nothing_yet (file_items fs e table)
+      ≡ told_seek (after_frames begun fs) e table ∷ []
+
+pub file-stands : (dictionary : List Entry) (fs : List Frame) (e : Entry) (table : Option Entry)
+    → AreWritten dictionary fs
     → IsWritableFileEnd dictionary e → IfSome table (IsWritableTable dictionary)
     → length (canonical_file (record { end = e; table = table }) fs) ≤ file_limit
-    → StandsAs (canonical_file (record { end = e; table = table }) fs) fs
-    (all_entries fs (record { end = e; table = table }))
+    → StandsAs fs e table
 file-stands dictionary fs e table all end table_is limit =
     let c : Closing = record { end = e; table = table } in
     let file : List ℕ = canonical_file c fs in
@@ -139,11 +148,9 @@ file-stands dictionary fs e table all end table_is limit =
     let more : List Item = all_items w b e table in
     let stand = closing-stands dictionary file w b e table may in
     let ends = ends-file dictionary file w b e table may in
-    let front : length (canonical_head fs) ≡ b.place = head-length fs ∙ head.tells.size in
-    let brings : read_from b more ≡ [] = ap (map _) (closing-frames dictionary file w b e table may) in
+    let front : length (canonical_head fs) ≡ b.place = head-size fs ∙ head.tells.size in
+    let none : read_from b more ≡ [] = ap (map _) (closing-frames dictionary file w b e table may) in
     record {
-      items = frames_items nothing_yet fs ++ more;
-      last = after_closing w b e table;
       well_formed = record {
         begins = record {
           size = omega (
@@ -157,13 +164,17 @@ file-stands dictionary fs e table all end table_is limit =
               head.stand stand;
         };
         closed = refl;
-        ends = sym (file-ends dictionary file w b e table may
+        ends = sym (may.whole
             ∙ end-place dictionary file mid e w.frames (told_bytes w e table) (told_seek w e table) ends);
       };
       frames = read-append file nothing_yet b (frames_items nothing_yet fs) more head.stand
-          ∙ (λ i. head.frames i ++ brings i)
+          ∙ (λ i. head.frames i ++ none i)
           ∙ append-nil (map as_read fs);
       dictionary = ap (λ es. es ++ e ∷ []) (sym past.tells.entries);
+      tables = brings-append table_here file nothing_yet b (frames_items nothing_yet fs) more head.stand
+          ∙ (λ i. head.tables i ++ closing-tables dictionary file w b e table may i);
+      seeks = brings-append (seek_told Little) file nothing_yet b (frames_items nothing_yet fs) more head.stand
+          ∙ (λ i. head.seeks i ++ closing-seeks dictionary file w b e table may i);
     }
 
 -- ---- it reads back
@@ -179,11 +190,11 @@ read_back dictionary fs closing sound frames writable few limit =
         let all : AreWritten dictionary fs = record { sound = sound; frames = frames; few = few } in
         let es : List Entry = (after_frames begun fs).entries in
         let stands = file-stands dictionary fs e table all end table_is limit in
-        let closing_is : closing_by stands.last.dictionary ≡ record { end = e; table = table } =
+        let closing_is : closing_by (file_last fs e table).dictionary ≡ record { end = e; table = table } =
         ap closing_by stands.dictionary ∙ closing-back dictionary es e table (needed dictionary fs all) end table_is in
         record {
-          items = stands.items;
-          last = stands.last;
+          items = file_items fs e table;
+          last = file_last fs e table;
           well_formed = stands.well_formed;
           content_is = λ i. record { closing = closing_is i; frames = stands.frames i };
         }

@@ -9,6 +9,8 @@ use Rattle.scalar_types.specs.declared.Order.TheVariants.{Little}
 use Rattle.dictionary.specs.declared.entries.Entry.{Entry}
 use Rattle.dictionary.specs.Dictionary.{entry_of, IsDictionary}
 use Rattle.file_grammar.specs.Structure.{Structure, file_limit}
+use Rattle.file_grammar.specs.declared.kind.Kind.TheVariants.{FrEndOfFrame}
+use Rattle.file_grammar.specs.Kind.{kind_of, is_target_kind}
 use Rattle.file_grammar.specs.Item.{Item, Before}
 use Rattle.file_grammar.specs.MayStand.{frames_limit, Stand}
 use Rattle.item_reader.specs.Roles.{root_of}
@@ -16,10 +18,11 @@ use Rattle.frame_content.specs.Frames.{Frame, label_at}
 use Rattle.canonical_file.specs.Ordered.{class_at}
 use Rattle.canonical_file.specs.Records.{Record, record_bytes, end_record, records_of, new_entry, with_record}
 use Rattle.canonical_file.specs.Records.{entries_after}
+use Rattle.file_content.specs.Stored.{frame_of_kind, frame_ended, table_of_kind, table_here, seek_of_kind, seek_told}
 use Rattle.file_content.specs.Contents.{content_frame}
 use Rattle.canonical_laws.specs.Writable.{IsWritable, IsWritableFrame, size_of_record, as_read}
 use Rattle.canonical_laws.proofs.Holding.{Holds, holds-left, holds-right, holds-at}
-use Rattle.canonical_laws.proofs.WrittenRecords.{record_structure, record-size, Agrees, entry-before}
+use Rattle.canonical_laws.proofs.WrittenRecords.{record_structure, record-size, kind-held, Agrees, entry-before}
 use Rattle.canonical_laws.proofs.WrittenRecords.{piece-stands}
 use Rattle.canonical_laws.proofs.RowsBack.{end-back}
 use Rattle.canonical_laws.proofs.AgreeingEntries.{AreIn, agrees-in, added-in, entries-longer}
@@ -30,9 +33,9 @@ use Rattle.canonical_laws.proofs.RecordsInTurn.{dictionary-after}
 use Rattle.canonical_laws.proofs.RecordsInTurn.{load-after, frames-after, place-after, bytes-append, entries-append}
 use Rattle.canonical_laws.proofs.RowsFollow.{stays-added, own-added, Going, records_from, all-records}
 use Rattle.canonical_laws.proofs.RowsFollow.{RowsFollow, rows-follow}
-use Rattle.canonical_laws.proofs.FrameEnds.{MayEnd, with_end, end-stands, frames_from, frames-append, frames-by}
-use Rattle.canonical_laws.proofs.FrameEnds.{row-frames}
-use Rattle.canonical_laws.proofs.FrameEnds.{stored_frame, end-frames}
+use Rattle.canonical_laws.proofs.FrameEnds.{MayEnd, with_end, end-stands, brings, frames_from, brings-append, brings-by}
+use Rattle.canonical_laws.proofs.FrameEnds.{BringsNone, rows-end_none, row-brings, rows-no_table, rows-no_seek}
+use Rattle.canonical_laws.proofs.FrameEnds.{stored_frame}
 use Rattle.canonical_laws.proofs.FrameRecords.{nodes_of, Gone, gone-linked, gone-header, gone-back, gone-marked}
 use Rattle.canonical_laws.proofs.RootsByName.{roots-agree}
 
@@ -44,26 +47,27 @@ pub record IsBetween (dictionary : List Entry) (b : Before) : Type 0 where
   pub unclosed : b.closed ≡ false
   pub no_table : b.table ≡ false
 
--- ---- rows end no frame
+-- ---- rows bring nothing
 
-rows-frames : (file : List ℕ) (b : Before) (rs : List Record) → AllByRecursion IsWritable rs → AllFollow b rs
-    → length file ≤ file_limit → Holds file b.place (bytes_of b.dictionary rs) → frames_from b (items_of b rs) ≡ []
-rows-frames file b [] all follow limit h = refl
-rows-frames file b (r ∷ rs) all follow limit h =
+rows-bring : {X : Type 0} (from : Before → Structure → List X) → BringsNone is_target_kind from → (file : List ℕ)
+    (b : Before) (rs : List Record) → AllByRecursion IsWritable rs → AllFollow b rs → length file ≤ file_limit
+    → Holds file b.place (bytes_of b.dictionary rs) → brings from b (items_of b rs) ≡ []
+rows-bring from none file b [] all follow limit h = refl
+rows-bring from none file b (r ∷ rs) all follow limit h =
     let piece : List ℕ = new_entry b.dictionary r.entry ++ record_bytes r in
     let more : List ℕ = bytes_of (with_record b.dictionary r) rs in
     let o = entry_of b.dictionary r.entry.class in
     let mid : Before = before_record b r in
     let next : Before = after_piece b r in
     let may = follow.1 in
-    let one : frames_from b (piece_items b r) ≡ [] =
-    frames-by o b r all.0.entry refl follow.0
-    ∙ ap (λ fs. fs ++ []) (row-frames mid mid.place r all.0.entry.low may.held may.kind) in
-    let others : frames_from next (items_of next rs) ≡ [] =
-    rows-frames file next rs all.1 follow.3 limit
+    let one : brings from b (piece_items b r) ≡ [] =
+    brings-by from o b r all.0.entry refl follow.0
+    ∙ ap (λ xs. xs ++ []) (row-brings from none mid mid.place r all.0.entry.low may.held may.kind) in
+    let others : brings from next (items_of next rs) ≡ [] =
+    rows-bring from none file next rs all.1 follow.3 limit
     (holds-at file (b.place + length piece) next.place more (place-after_piece b r)
     (holds-right file b.place piece more h)) in
-    frames-append file b next (piece_items b r) (items_of next rs)
+    brings-append from file b next (piece_items b r) (items_of next rs)
     (piece-stands o file b r refl follow.0 all.0 may follow.2 limit (holds-left file b.place piece more h))
     ∙ (λ i. one i ++ others i)
 
@@ -96,6 +100,8 @@ pub record FrameStands (dictionary : List Entry) (file : List ℕ) (b : Before) 
   pub entries : (after_end b f).dictionary ≡ entries_after b.dictionary (records_of f)
   pub place : (after_end b f).place ≡ b.place + length (bytes_of b.dictionary (records_of f))
   pub count : (after_end b f).frames ≡ b.frames + 1
+  pub tables : brings table_here b (frame_items b f) ≡ []
+  pub seeks : brings (seek_told Little) b (frame_items b f) ≡ []
 
 -- What is known of a frame that is to stand at a place.
 pub record MayStandAt (dictionary : List Entry) (file : List ℕ) (b : Before) (f : Frame) : Type 0 where
@@ -240,6 +246,32 @@ reads-back dictionary file b f may =
     may.writable.end.writable (end-held dictionary file b f may) in
     λ i. record { rows = rows i; roots = roots i; end = end i }
 
+-- what its rows bring, and what its end does
+frame-brings : {X : Type 0} (from : Before → Structure → List X) → BringsNone is_target_kind from
+    → (dictionary : List Entry) (file : List ℕ) (b : Before) (f : Frame) → MayStandAt dictionary file b f
+    → brings from b (frame_items b f) ≡ from (before_end b f) (end_structure b f) ++ []
+frame-brings from none dictionary file b f may =
+    let rs : List Record = rows_of f in
+    let e : Record = end_record f in
+    let mid : Before = after_rows b f in
+    let front : List ℕ = bytes_of b.dictionary rs in
+    let writable = all-writable dictionary f may.writable in
+    let follows = follow dictionary file b f may in
+    let whole : Holds file b.place (front ++ end_bytes b f) = subst (Holds file b.place) (bytes-split b f) may.holds in
+    let left : Holds file b.place front = holds-left file b.place front (end_bytes b f) whole in
+    let ends = brings-by from (entry_of mid.dictionary f.end.entry.class) mid e may.writable.end.writable.entry refl
+    (end-agrees dictionary file b f may) in
+    brings-append from file b mid (items_of b rs) (piece_items mid e)
+    (records-stand file b rs writable follows.follow may.limit left)
+    ∙ (λ i. rows-bring from none file b rs writable follows.follow may.limit left i ++ ends i)
+
+-- the end is of its kind
+end-kind : (dictionary : List Entry) (file : List ℕ) (b : Before) (f : Frame) → MayStandAt dictionary file b f
+    → kind_of (before_end b f).dictionary f.end.entry.class ≡ FrEndOfFrame
+end-kind dictionary file b f may =
+    let w = may.writable.end in
+    kind-held (before_end b f).dictionary f.end.entry w.writable.entry.low (end-held dictionary file b f may) ∙ w.kind
+
 -- The whole frame.
 pub frame-stands : (dictionary : List Entry) (file : List ℕ) (b : Before) (f : Frame)
     → MayStandAt dictionary file b f → FrameStands dictionary file b f
@@ -257,17 +289,19 @@ frame-stands dictionary file b f may =
     let left : Holds file b.place front = holds-left file b.place front (end_bytes b f) whole in
     let rows : Stand Little file b (items_of b rs) mid =
     records-stand file b rs writable follows.follow may.limit left in
-    let own = end-held dictionary file b f may in
-    let ends : frames_from mid (piece_items mid e) ≡ stored_frame next (end_structure b f) ∷ [] =
-    frames-by o mid e w.writable.entry refl (end-agrees dictionary file b f may)
-    ∙ ap (λ fs. fs ++ []) (end-frames next next.place e w.writable.entry.low own w.kind) in
-    let brings : frames_from b (frame_items b f) ≡ stored_frame next (end_structure b f) ∷ [] =
-    frames-append file b mid (items_of b rs) (piece_items mid e) rows
-    ∙ (λ i. rows-frames file b rs writable follows.follow may.limit left i ++ ends i) in
+    let s : Structure = end_structure b f in
+    let kind = end-kind dictionary file b f may in
+    let frames : frames_from b (frame_items b f) ≡ stored_frame next s ∷ [] =
+    frame-brings frame_ended rows-end_none dictionary file b f may ∙ ap (λ k. frame_of_kind k next s ++ []) kind in
+    let tables : brings table_here b (frame_items b f) ≡ [] =
+    frame-brings table_here rows-no_table dictionary file b f may ∙ ap (λ k. table_of_kind k next s ++ []) kind in
+    let seeks : brings (seek_told Little) b (frame_items b f) ≡ [] =
+    frame-brings (seek_told Little) rows-no_seek dictionary file b f may
+    ∙ ap (λ k. seek_of_kind Little k next s ++ []) kind in
     record {
       stand = stand-append Little file b mid (after_end b f) (items_of b rs) (piece_items mid e) rows
           (end-part dictionary file b f may);
-      frames = ap (map (content_frame Little)) brings ∙ ap (λ (g : Frame). g ∷ []) (reads-back dictionary file b f may);
+      frames = ap (map (content_frame Little)) frames ∙ ap (λ (g : Frame). g ∷ []) (reads-back dictionary file b f may);
       between = record {
         entries = added-in dictionary mid.dictionary o f.end.entry follows.going.entries w.held;
         frame = refl;
@@ -285,4 +319,6 @@ frame-stands dictionary file b f may =
         record-size next.place e,
       );
       count = ap (λ n. n + 1) (frames-after b rs);
+      tables = tables;
+      seeks = seeks;
     }

@@ -1,5 +1,5 @@
 -- The laws of contents and canonical files.
-use Rattle.std.specs.Prelude.{◌≡◌, ◌≤◌, ◌↔◌, ℕ, false, List, length, map, take, All}
+use Rattle.std.specs.Prelude.{◌≡◌, ◌≢◌, ◌≤◌, ◌↔◌, ℕ, false, List, [], length, map, take, All}
 use Rattle.std.specs.List.{AllByRecursion, AllZip}
 use Rattle.scalar_types.specs.declared.Order.{Order}
 use Rattle.scalar_types.specs.declared.Order.TheVariants.{Little}
@@ -10,9 +10,12 @@ use Rattle.file_grammar.specs.Item.{Item, Before}
 use Rattle.file_grammar.specs.MayStand.{frames_limit, Begins, IsWellFormed}
 use Rattle.file_grammar.specs.Laws.{WellFormed}
 use Rattle.frame_content.specs.Frames.{Frame}
+use Rattle.file_content.specs.declared.state.TableState.TheVariants as state
+use Rattle.file_content.specs.declared.contents.Contents.{Contents}
+use Rattle.file_content.specs.Contents.{AreContents}
 use Rattle.canonical_file.specs.declared.closing.Closing.{Closing}
 use Rattle.canonical_file.specs.Ranges.{AreBytes}
-use Rattle.canonical_file.specs.Written.{canonical_head, canonical_file}
+use Rattle.canonical_file.specs.Written.{begun, after_frames, table_piece, canonical_head, canonical_file}
 use Rattle.canonical_file.specs.Contents.{Content, SameContent, IsCanonical}
 use Rattle.canonical_file.specs.Splices.{IsSplice}
 use Rattle.canonical_laws.specs.Content.{content_of, HasContent}
@@ -35,6 +38,15 @@ WrittenFilesAreReadBack =
     → AllByRecursion (IsWritableFrame dictionary) frames → IsWritableClosing dictionary closing
     → length frames ≤ frames_limit → length (canonical_file closing frames) ≤ file_limit
     → ReadsBack (canonical_file closing frames) closing frames
+
+-- The contents table of such a file is none where its record is not written.
+abbrev pub UnwrittenTablesAreNone : Type 0
+UnwrittenTablesAreNone =
+    (dictionary : List Entry) (frames : List Frame) (closing : Closing) (c : Contents) → IsDictionary dictionary
+    → AllByRecursion (IsWritableFrame dictionary) frames → IsWritableClosing dictionary closing
+    → length frames ≤ frames_limit → length (canonical_file closing frames) ≤ file_limit
+    → AreContents (canonical_file closing frames) c
+    → (table_piece (after_frames begun frames) closing).record_itself ≡ [] → c.table ≡ state.None
 
 -- ---- contents and their canonical files
 
@@ -65,26 +77,3 @@ abbrev pub CanonicalFilesStay : Type 0
 CanonicalFilesStay =
     (file bytes again : List ℕ) (c d : Content) → AreBytes file → HasContent file c → IsCanonical c bytes
     → length bytes ≤ file_limit → HasContent bytes d → IsCanonical d again → again ≡ bytes
-
--- The canonical file of a splice of the contents of well-formed files is well-formed, and has the content of the
--- splice.
-abbrev pub SplicesKeepContents : Type 0
-SplicesKeepContents =
-    (file : List ℕ) (files : List (List ℕ)) (first c : Content) (others : List Content) (bytes : List ℕ) → AreBytes file
-    → All AreBytes files → HasContent file first → AllZip HasContent files others → IsSplice first others c
-    → IsCanonical c bytes → length bytes ≤ file_limit → (d : Content) × HasContent bytes d × SameContent c d
-
--- ---- prefixes
-
--- No prefix of a file that begins with items and is still open after them is well-formed.
-abbrev pub NoPrefixOfAnOpenFile : Type 0
-NoPrefixOfAnOpenFile =
-    (file : List ℕ) (order : Order) (items : List Item) (last : Before) → Begins file order items last
-    → last.closed ≡ false → last.place ≡ length file → (n : ℕ) → WellFormed (take n file) → ⊥
-
--- So no prefix of a canonical head is.
-abbrev pub NoPrefixOfACanonicalHead : Type 0
-NoPrefixOfACanonicalHead =
-    (dictionary : List Entry) (frames : List Frame) → IsDictionary dictionary
-    → AllByRecursion (IsWritableFrame dictionary) frames → length frames ≤ frames_limit
-    → length (canonical_head frames) ≤ file_limit → (n : ℕ) → WellFormed (take n (canonical_head frames)) → ⊥

@@ -36,6 +36,7 @@ pub record IsWritableElement (e : Element) : Type 0 where
   pub comment : IsShortText e.comment
   pub read : IsRead e
 
+-- An entry: its class is one of a record, its texts are short, and its elements can be written.
 pub record IsWritableEntry (e : Entry) : Type 0 where
   pub low : 3 ≤ e.class
   pub high : e.class ≤ 255
@@ -69,9 +70,11 @@ pub record IsRow (rows : ℕ) (r : Row) : Type 0 where
 
 -- ---- frames
 
+-- the record of a row, by the row's number
 abbrev pub record_at : Frame → ℕ → Record
 record_at f k = row_record f (k, row_at f k)
 
+-- the kind of its structure
 abbrev pub kind_at : Frame → ℕ → Kind
 kind_at f k = kind_named (label_at f k).entry.name
 
@@ -99,6 +102,7 @@ pub record IsWritableEnd (dictionary : List Entry) (f : Frame) : Type 0 where
   pub writable : IsWritable (end_record f)
   pub label : IsLabel f.end
 
+-- the bytes of a record
 abbrev pub size_of_record : Record → ℕ
 size_of_record r = length (record_bytes r)
 
@@ -112,10 +116,11 @@ pub record IsWritableFrame (dictionary : List Entry) (f : Frame) : Type 0 where
   pub header_is : kind_at f header ≡ FrameH
   pub load : sum_by size_of_record (records_of f) ≤ record_limit
 
--- the number of a row of this structure
+-- the number of a row, where it is one of this structure
 abbrev pub number_if : List ℕ → ℕ × Row → Option ℕ
 number_if name row = if bytes_eq row.1.label.entry.name name then Some row.0 else None
 
+-- the numbers of the rows of a structure
 abbrev pub rows_named : List ℕ → Frame → List ℕ
 rows_named name f = filter_map (number_if name) (enumerate_from 0 f.rows)
 
@@ -125,7 +130,7 @@ as_read f = record f { roots = rows_named (codes "FrameH") f ++ rows_named (code
 
 -- ---- closings
 
--- The entry of FrEndOfFile.
+-- The entry of FrEndOfFile: it is printed, and has the layout that closes a file.
 pub record IsWritableFileEnd (dictionary : List Entry) (e : Entry) : Type 0 where
   pub entry : IsWritableEntry e
   pub kind : kind_named e.name ≡ FrEndOfFile
@@ -133,7 +138,7 @@ pub record IsWritableFileEnd (dictionary : List Entry) (e : Entry) : Type 0 wher
   pub closes : closes e.elements ≡ true
   pub held : entry_of dictionary e.class ≡ Some e
 
--- The entry of FrTOC.
+-- The entry of FrTOC: it is printed, and fit for a contents table.
 pub record IsWritableTable (dictionary : List Entry) (e : Entry) : Type 0 where
   pub entry : IsWritableEntry e
   pub kind : kind_named e.name ≡ FrTOC

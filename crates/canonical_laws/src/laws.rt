@@ -1,10 +1,10 @@
 //! The laws of contents and canonical files. Each is the contract of a function that does nothing: a crate
 //! that calls the function has the law.
 
-ghost use Rattle.canonical_laws.specs.Laws.{WrittenFilesAreReadBack, ContentsAreUnique};
+ghost use Rattle.canonical_laws.specs.Laws.{WrittenFilesAreReadBack, UnwrittenTablesAreNone};
+ghost use Rattle.canonical_laws.specs.Laws.{ContentsAreUnique};
 ghost use Rattle.canonical_laws.specs.Laws.{CanonicalFilesAreUnique, CanonicalFilesKeepContents};
 ghost use Rattle.canonical_laws.specs.Laws.{CanonicalFilesTellContents, CanonicalFilesStay};
-ghost use Rattle.canonical_laws.specs.Laws.{NoPrefixOfAnOpenFile, NoPrefixOfACanonicalHead};
 ghost use Rattle.canonical_laws.specs.Sources.{EntriesOfFilesAreWritable, FramesOfFilesAreWritable};
 ghost use Rattle.canonical_laws.specs.Sources.{ClosingsOfFilesAreWritable};
 
@@ -21,6 +21,11 @@ pub fn sources_can_be_written()
     ensures closings { ClosingsOfFilesAreWritable }
 {}
 
+/// The contents table of such a file is none where its record is not written.
+pub fn unwritten_tables_are_none()
+    ensures { UnwrittenTablesAreNone }
+{}
+
 /// A file has one content, and a content has one canonical file.
 pub fn canonical_files_are_unique()
     ensures contents { ContentsAreUnique }
@@ -33,10 +38,4 @@ pub fn canonical_files_tell_contents()
     ensures keep { CanonicalFilesKeepContents }
     ensures tell { CanonicalFilesTellContents }
     ensures stay { CanonicalFilesStay }
-{}
-
-/// No prefix of a file that is still open is well-formed, and so none of a canonical head.
-pub fn no_head_looks_whole()
-    ensures open_file { NoPrefixOfAnOpenFile }
-    ensures canonical_head { NoPrefixOfACanonicalHead }
 {}
