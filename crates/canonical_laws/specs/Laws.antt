@@ -1,23 +1,20 @@
 -- The laws of contents and canonical files.
-use Rattle.std.specs.Prelude.{◌≡◌, ◌≢◌, ◌≤◌, ◌↔◌, ℕ, false, List, [], length, map, take, All}
-use Rattle.std.specs.List.{AllByRecursion, AllZip}
-use Rattle.scalar_types.specs.declared.Order.{Order}
+use Rattle.std.specs.Prelude.{◌≡◌, ◌≤◌, ◌↔◌, ℕ, List, [], length, map}
+use Rattle.std.specs.List.{AllByRecursion}
 use Rattle.scalar_types.specs.declared.Order.TheVariants.{Little}
 use Rattle.dictionary.specs.declared.entries.Entry.{Entry}
 use Rattle.dictionary.specs.Dictionary.{IsDictionary}
 use Rattle.file_grammar.specs.Structure.{file_limit}
 use Rattle.file_grammar.specs.Item.{Item, Before}
-use Rattle.file_grammar.specs.MayStand.{frames_limit, Begins, IsWellFormed}
-use Rattle.file_grammar.specs.Laws.{WellFormed}
+use Rattle.file_grammar.specs.MayStand.{frames_limit, IsWellFormed}
 use Rattle.frame_content.specs.Frames.{Frame}
 use Rattle.file_content.specs.declared.state.TableState.TheVariants as state
 use Rattle.file_content.specs.declared.contents.Contents.{Contents}
 use Rattle.file_content.specs.Contents.{AreContents}
 use Rattle.canonical_file.specs.declared.closing.Closing.{Closing}
 use Rattle.canonical_file.specs.Ranges.{AreBytes}
-use Rattle.canonical_file.specs.Written.{begun, after_frames, table_piece, canonical_head, canonical_file}
+use Rattle.canonical_file.specs.Written.{begun, after_frames, table_piece, canonical_file}
 use Rattle.canonical_file.specs.Contents.{Content, SameContent, IsCanonical}
-use Rattle.canonical_file.specs.Splices.{IsSplice}
 use Rattle.canonical_laws.specs.Content.{content_of, HasContent}
 use Rattle.canonical_laws.specs.Writable.{IsWritableFrame, as_read, IsWritableClosing}
 
