@@ -7,7 +7,7 @@ use std::test::Fail;
 
 #[test]
 fn walks_over_lists(rt: HostRuntime) -> Result<(), Fail> {
-    let rows: [ListedRow; 12] = [
+    let rows: [ListedRow; 13] = [
         (
             "next of H1:C leads to H1:A",
             &[Full(0, 2405), Bytes(b"\x05\0\0\0\0\0"), Full(2411, 3637)],
@@ -80,6 +80,26 @@ fn walks_over_lists(rt: HostRuntime) -> Result<(), Fail> {
             ],
             "accepted\norder: little\nframes: 1\nrecords: 10\ntable: none\nbytes: 3640\n",
             "",
+        ),
+        (
+            "each unitY is of length 0, so that H1:B stands a byte earlier than its position",
+            &[
+                Full(0, 2137),
+                Numbers(&[89]),
+                Full(2145, 2214),
+                Bytes(b"\0\0"),
+                Full(2217, 2276),
+                Numbers(&[89]),
+                Full(2284, 2353),
+                Bytes(b"\0\0"),
+                Full(2356, 2415),
+                Numbers(&[89]),
+                Full(2423, 2492),
+                Bytes(b"\0\0"),
+                Rest(2495),
+            ],
+            "accepted\norder: little\nframes: 1\nrecords: 10\ntable: bad\nbytes: 3634\n",
+            THREE,
         ),
         (
             "H1:B is named H1:A",
