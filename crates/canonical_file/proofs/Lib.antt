@@ -20,3 +20,4 @@ mod Examples
 mod ExampleFrame
 mod ExampleFrames
 mod ExampleClashes
+pub mod Printing

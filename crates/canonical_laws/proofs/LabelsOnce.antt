@@ -12,7 +12,7 @@ use Rattle.file_grammar.specs.Record.{Reading}
 use Rattle.frame_content.specs.Labels.{nullified, unlinked, printed_entry, label_by}
 use Rattle.canonical_file.specs.Records.{entry_fields}
 use Rattle.canonical_laws.specs.Writable.{IsLabel}
-use Rattle.canonical_laws.proofs.Printing.{layout-printed, entry-twice}
+use Rattle.canonical_file.proofs.Printing.{layout-printed, entry-twice}
 
 nullified-twice : (links : List Link) → map nullified (map nullified links) ≡ map nullified links
 nullified-twice [] = refl

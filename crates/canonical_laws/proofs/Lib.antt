@@ -1,4 +1,3 @@
-pub mod Printing
 pub mod PrintedDictionaries
 pub mod LabelFits
 pub mod LabelRanges

@@ -14,7 +14,7 @@ use Rattle.contents_table.specs.declared.kind.Kind.TheVariants.{Adc, Proc, Sim, 
 use Rattle.contents_table.specs.Channels.{is_text}
 use Rattle.contents_table.specs.Fit.{count_field, names_field, positions_field, frames_field, heads_field, is_list, has_list}
 use Rattle.contents_table.specs.Fit.{has_field, lists, lacks, has_table, is_fit}
-use Rattle.canonical_laws.proofs.Printing.{layout-printed}
+use Rattle.canonical_file.proofs.Printing.{layout-printed}
 
 abbrev printed_found : ℕ × Element → ℕ × Element
 printed_found found = (found.0, printed_element found.1)

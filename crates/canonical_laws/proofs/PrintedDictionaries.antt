@@ -11,7 +11,7 @@ use Rattle.dictionary.specs.declared.entries.Entry.{Entry}
 use Rattle.dictionary.specs.Dictionary.{entry_of, class_named, IsHeld, IsDictionary}
 use Rattle.dictionary.specs.Same.{IsRead, AreRead}
 use Rattle.frame_content.specs.Labels.{printed_element, printed_entry}
-use Rattle.canonical_laws.proofs.Printing.{printed-reads}
+use Rattle.canonical_file.proofs.Printing.{printed-reads}
 
 pub entry_of-printed : (held : List Entry) (class : ℕ)
     → entry_of (map printed_entry held) class ≡ option_map printed_entry (entry_of held class)

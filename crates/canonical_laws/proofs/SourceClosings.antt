@@ -23,7 +23,7 @@ use Rattle.contents_table.specs.Fit.{is_fit}
 use Rattle.canonical_file.specs.Ranges.{AreBytes}
 use Rattle.canonical_laws.specs.Content.{entry_named, if_fit, closing_by}
 use Rattle.canonical_laws.specs.Writable.{IsWritableFileEnd, IsWritableTable, IsWritableClosing}
-use Rattle.canonical_laws.proofs.Printing.{entry-twice}
+use Rattle.canonical_file.proofs.Printing.{entry-twice}
 use Rattle.canonical_laws.proofs.PrintedDictionaries.{entry_of-printed}
 use Rattle.canonical_laws.proofs.PrintedClosings.{closes-printed, fit-printed}
 use Rattle.canonical_laws.proofs.SourceEntries.{AreSources, source-held, entry-printed}

@@ -27,7 +27,7 @@ use Rattle.frame_content.specs.Labels.{printed_element, printed_entry}
 use Rattle.canonical_file.specs.Ranges.{IsByte, AreBytes}
 use Rattle.canonical_laws.specs.Writable.{IsWritableElement, IsWritableEntry}
 use Rattle.canonical_laws.proofs.AgreeingEntries.{all-push}
-use Rattle.canonical_laws.proofs.Printing.{printed-reads}
+use Rattle.canonical_file.proofs.Printing.{printed-reads}
 
 -- the body of a structure of a file of bytes is bytes
 pub body-bytes : (order : Order) (file : List ℕ) (s : Structure) → AreBytes file → StandsWhole order file s

@@ -26,7 +26,7 @@ use Rattle.canonical_file.specs.Bytes.{body_bytes}
 use Rattle.canonical_file.specs.Records.{Record, entry_fields}
 use Rattle.canonical_file.proofs.Spelled.{body-written}
 use Rattle.canonical_laws.specs.Writable.{IsWritableEntry, IsWritable, size_of_record}
-use Rattle.canonical_laws.proofs.Printing.{layout-printed}
+use Rattle.canonical_file.proofs.Printing.{layout-printed}
 use Rattle.canonical_laws.proofs.LabelFits.{AllStandFor, stands-fit, all-lengths, label-stands, linked-label-stands}
 use Rattle.canonical_laws.proofs.LabelRanges.{label-range, linked-label-range}
 use Rattle.canonical_laws.proofs.LabelsOnce.{fields-printed}

@@ -42,7 +42,7 @@ use Rattle.contents_table.proofs.LinkEnds.{IsRecord, record-at, row-record, targ
 
 -- ---- elements with printed types
 
-first-printed : (i : ℕ) (es : List Element) (name : List ℕ) → first_named i (map printed_element es) name
+pub first-printed : (i : ℕ) (es : List Element) (name : List ℕ) → first_named i (map printed_element es) name
     ≡ option_map (λ (p : ℕ × Element). (p.0, printed_element p.1)) (first_named i es name)
 first-printed i [] name = refl
 first-printed i (e ∷ es) name = by (bytes_eq name e.name) (first-printed (i + 1) es name)

@@ -90,7 +90,8 @@ read-record held plans order r are reads =
 
 -- ---- classes and names
 
-find-passes : {X : Type 0} (p : X → Bool) (xs : List X) (x : X) → find p xs ≡ Some x → p x ≡ true
+-- what is found passes
+pub find-passes : {X : Type 0} (p : X → Bool) (xs : List X) (x : X) → find p xs ≡ Some x → p x ≡ true
 find-passes p [] x e = absurd (none-some x e)
 find-passes p (y ∷ ys) x e = by (p y) refl (find-passes p ys x) e
   where

@@ -132,7 +132,7 @@ values-rest ts numbers (f ∷ fs) (suc k) =
     (take k (map number_of vs))))
     ∙ values-rest ts (numbers ++ n ∷ []) fs k
 
-values-length : (ts : List (ℕ × Value)) (numbers : List ℕ) (fields : List Field)
+pub values-length : (ts : List (ℕ × Value)) (numbers : List ℕ) (fields : List Field)
     → length (values_after ts numbers fields) ≡ length fields
 unfolding values_after
 values-length ts numbers [] = refl
@@ -179,7 +179,8 @@ values_after-cons : (ts : List (ℕ × Value)) (numbers : List ℕ) (f : Field) 
 unfolding values_after
 values_after-cons ts numbers f fs = refl
 
-values-at : (ts : List (ℕ × Value)) (fields : List Field) (k : ℕ) (f : Field) → slice_get fields k ≡ Some f
+-- the values of a record from a field on
+pub values-at : (ts : List (ℕ × Value)) (fields : List Field) (k : ℕ) (f : Field) → slice_get fields k ≡ Some f
     → drop k (values_told ts fields)
     ≡ told_at ts k (blank_by (take k (map number_of (values_told ts fields))) f.form f.counts)
     ∷ drop (k + 1) (values_told ts fields)
