@@ -1,0 +1,18 @@
+//! Canonical files written frame by frame: the one file of its content.
+//!
+//! `CanonWriter` puts each frame to its slot as it comes, in little-endian order, each class with its entry before its
+//! first record, and at the end the contents table and FrEndOfFile.
+#![tactic(auto)]
+
+mod closing_part;
+mod end_values;
+mod entries;
+mod errors;
+mod frame_part;
+mod instances;
+mod records;
+mod used;
+mod writer;
+
+pub use errors::WriteError;
+pub use writer::{CanonWriter, Summary};
