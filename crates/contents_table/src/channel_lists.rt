@@ -94,7 +94,7 @@ fn single_text<'a>(plan: &Plan, order: Order, body: &'a [u8], field: u32) -> Opt
     ensures short { IfSome result (λ text. length text.now ≤ 65534) }
 {
     match single_form(plan, field)? {
-        Form::Text => Some(text_at(plan, order, body, field)),
+        Form::Text => Some(lent_text(plan, order, body, field)),
         _ => None,
     }
 }
@@ -210,13 +210,36 @@ fn target(segment: &Segment, plans: &Plans, node: u32, to: Head) -> Option<u32>
     segment.target(link)
 }
 
+/// A link, read out of line: to find its place may take room for all fields of a layout, and a compiler that joins such
+/// room with a way out before it is known to lose a register.
+#[inline(never)]
+fn lent_link(plan: &Plan, order: Order, body: &[u8], field: u32) -> Link
+    requires body { HasBody order plan.now body.now }
+    requires field { field < length plan.now }
+    requires link { IsLinkField plan.now field }
+    ensures { HasPlainLinkAt order plan.now body.now field result }
+{
+    plain_link_at(plan, order, body, field)
+}
+
+/// A text, read out of line for the same reason.
+#[inline(never)]
+fn lent_text<'a>(plan: &Plan, order: Order, body: &'a [u8], field: u32) -> &'a [u8]
+    requires body { HasBody order plan.now body.now }
+    requires field { field < length plan.now }
+    requires text { IsTextField plan.now field }
+    ensures { HasTextAt order plan.now body.now field result.now }
+{
+    text_at(plan, order, body, field)
+}
+
 /// The link of a field, where that is one without dimension.
 fn single_link(plan: &Plan, order: Order, body: &[u8], field: u32) -> Option<Link>
     requires { HasBody order plan.now body.now }
     ensures { IsLinkField plan.now field → IsSomeAnd result (HasPlainLinkAt order plan.now body.now field) }
 {
     match single_form(plan, field)? {
-        Form::Link => Some(plain_link_at(plan, order, body, field)),
+        Form::Link => Some(lent_link(plan, order, body, field)),
         _ => None,
     }
 }

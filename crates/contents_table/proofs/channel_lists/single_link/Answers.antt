@@ -7,8 +7,8 @@ use Rattle.contents_table.proofs.channel_lists.single_link.Goals as goal
 pub returns-in_err-single_form : goal.returns-in_err-single_form
 returns-in_err-single_form c = λ is. absurd (none-some Link ((c.in_err-single_form.ensures Link).1 is))
 
-pub plain_link_at-requires-clause-field : goal.plain_link_at-requires-clause-field
-plain_link_at-requires-clause-field c =
+pub lent_link-requires-clause-field : goal.lent_link-requires-clause-field
+lent_link-requires-clause-field c =
     single-within c.args.plan.now c.args.field Link ((c.in_ok-single_form.ensures Link).0 (ap Some c.in-Link.is))
 
 pub returns-in_default : goal.returns-in_default

@@ -10,16 +10,16 @@ pub returns-in_err-single_form-clause-text : goal.returns-in_err-single_form-cla
 returns-in_err-single_form-clause-text c = λ is.
     absurd (none-some Text ((c.in_err-single_form.ensures Text).1 is))
 
-pub text_at-requires-clause-field : goal.text_at-requires-clause-field
-text_at-requires-clause-field c =
+pub lent_text-requires-clause-field : goal.lent_text-requires-clause-field
+lent_text-requires-clause-field c =
     single-within c.args.plan.now c.args.field Text ((c.in_ok-single_form.ensures Text).0 (ap Some c.in-Text.is))
 
 pub returns-in-Text-clause-short : goal.returns-in-Text-clause-short
 returns-in-Text-clause-short c =
-    text-short c.args.order c.args.plan.now c.args.body.now c.args.field c.text_at.result.now
+    text-short c.args.order c.args.plan.now c.args.body.now c.args.field c.lent_text.result.now
     (λ k d within. let below = c.type_inv.body k in
     omega (arith, get_or_default c.args.body.now k d 0 within))
-    c.requires c.text_at.ensures
+    c.requires c.lent_text.ensures
 
 pub returns-in_default : goal.returns-in_default
 returns-in_default c = record {
