@@ -121,7 +121,7 @@ no_element_behind order n file b (OtherItem t ∷ items) last unclosed stand clo
     (other_class order (take n file) b t may).1 (ap (λ (u : Structure). u.class) same ∙ is.class)
 
 -- the first items of a prefix that is closed and of the file are one
-same_first : (order : Order) (n : ℕ) (file : List ℕ) (b : Before) (item other : Item) (items : List Item)
+pub same_first : (order : Order) (n : ℕ) (file : List ℕ) (b : Before) (item other : Item) (items : List Item)
     (last : Before)
     → MayStand order (take n file) b item → MayStand order file b other
     → Stand order (take n file) (after order b item) items last → last.closed ≡ true → item ≡ other
@@ -161,7 +161,7 @@ same_first order n file b (OtherItem s) (OtherItem t) items last left right stan
     ∙ sym right.1.here))
 
 -- nothing may stand where the file is closed
-open_item : (order : Order) (file : List ℕ) (b : Before) (item : Item) → MayStand order file b item → b.closed ≡ false
+pub open_item : (order : Order) (file : List ℕ) (b : Before) (item : Item) → MayStand order file b item → b.closed ≡ false
 open_item order file b (EntryItem head run entry) may = may.0
 open_item order file b (OtherItem s) may = may.0
 
