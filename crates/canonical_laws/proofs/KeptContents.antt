@@ -24,7 +24,7 @@ use Rattle.canonical_laws.proofs.Sources.{source_entries, source_frames, source_
 use Rattle.canonical_laws.proofs.WholeFiles.{read_back}
 
 -- frames that can be written, in their orders
-orders-writable : (dictionary : List Entry) (fs os : List Frame) → All (IsWritableInOrder dictionary) fs
+pub orders-writable : (dictionary : List Entry) (fs os : List Frame) → All (IsWritableInOrder dictionary) fs
     → AllZip IsInOrder fs os → AllByRecursion (IsWritableFrame dictionary) os
 orders-writable dictionary [] [] all orders = tt
 orders-writable dictionary [] (o ∷ os) all orders = absurd orders

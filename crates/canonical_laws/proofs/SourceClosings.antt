@@ -33,7 +33,7 @@ use Rattle.canonical_laws.proofs.SourceItems.{IsSourceBefore, item-source}
 -- ---- the entry of a name
 
 -- two searches find one element, where each finds what passes the other's test
-find-both : {X : Type 0} (p q : X → Bool) (xs : List X) (a b : X) → find p xs ≡ Some a → find q xs ≡ Some b
+pub find-both : {X : Type 0} (p q : X → Bool) (xs : List X) (a b : X) → find p xs ≡ Some a → find q xs ≡ Some b
     → p b ≡ true → q a ≡ true → a ≡ b
 find-both p q [] a b first second other one = absurd (none-some a first)
 find-both p q (x ∷ xs) a b first second other one =
@@ -52,7 +52,7 @@ same-name : (e : Entry) (name : List ℕ) → e.name ≡ name → bytes_eq name 
 same-name e name is self = ap (bytes_eq name) is ∙ self
 
 -- an entry that is found by its name is held of its class
-named-held : (held : List Entry) (name : List ℕ) (e : Entry) → IsDictionary held → bytes_eq name name ≡ true
+pub named-held : (held : List Entry) (name : List ℕ) (e : Entry) → IsDictionary held → bytes_eq name name ≡ true
     → entry_named held name ≡ Some e → entry_of held e.class ≡ Some e
 named-held held name e sound self is =
     by (entry_of held e.class) refl
@@ -66,7 +66,7 @@ named-held held name e sound self is =
         is found (same-name x name named self) (eq-eqb e.class e.class refl)))
 
 -- an entry that is held is found by its name
-held-named : (held : List Entry) (name : List ℕ) (class : ℕ) (e : Entry) → IsDictionary held → bytes_eq name name ≡ true
+pub held-named : (held : List Entry) (name : List ℕ) (class : ℕ) (e : Entry) → IsDictionary held → bytes_eq name name ≡ true
     → e.name ≡ name → entry_of held class ≡ Some e → entry_named held name ≡ Some e
 held-named held name class e sound self named is =
     by (entry_named held name) refl (ap (class_named held) (sym named) ∙ (sound.entries class e is).name)
@@ -79,14 +79,14 @@ held-named held name class e sound self named is =
         let class_is : x.class ≡ class = same_Some x.class e.class some ∙ sym (held-class held class e is) in
         found ∙ sym own ∙ ap (entry_of held) class_is ∙ is
 
-named-name : (held : List Entry) (name : List ℕ) (e : Entry) → IsDictionary held → bytes_eq name name ≡ true
+pub named-name : (held : List Entry) (name : List ℕ) (e : Entry) → IsDictionary held → bytes_eq name name ≡ true
     → entry_named held name ≡ Some e → e.name ≡ name
 named-name held name e sound self is =
     subst (λ o. IsSomeAnd o (λ (x : Entry). x.name ≡ name)) (named-held held name e sound self is)
     (sound.names name e.class (ap (option_map (λ (x : Entry). x.class)) is))
 
 -- the name of FrEndOfFile
-end-named : (name : List ℕ) → kind_named name ≡ FrEndOfFile → name ≡ codes "FrEndOfFile"
+pub end-named : (name : List ℕ) → kind_named name ≡ FrEndOfFile → name ≡ codes "FrEndOfFile"
 end-named name is =
     (bytes_eq-Decides name (codes "FrEndOfFile")).0
     (by (bytes_eq name (codes "FrameH")) (bytes_eq name (codes "FrEndOfFrame")) (bytes_eq name (codes "FrTOC"))

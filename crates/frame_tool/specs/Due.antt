@@ -1,5 +1,5 @@
 -- The reply that is due to words over files: the answer, and the text that is printed.
-use Rattle.std.specs.Prelude.{◌≡◌, ℕ, List, ◌++◌, codes, Option, Some, None, ◌⊎◌, ⊤, take}
+use Rattle.std.specs.Prelude.{◌≡◌, ℕ, ◌<◌, Bool, true, false, List, ◌++◌, length, codes, Option, Some, None, ◌⊎◌, ⊤, take}
 use Rattle.std.specs.Fmt.{decimal}
 use Rattle.scalar_types.specs.declared.Order.{Order}
 use Rattle.scalar_types.specs.declared.Order.TheVariants.{Big, Little}
@@ -7,13 +7,16 @@ use Rattle.file_content.specs.declared.contents.Contents.{Contents}
 use Rattle.file_content.specs.declared.state.TableState.{TableState}
 use Rattle.file_content.specs.declared.state.TableState.TheVariants as state
 use Rattle.frame_outside.specs.Shelf.{Files}
-use Rattle.frame_outside.specs.Sink.{Output, Appends}
+use Rattle.frame_outside.specs.Sink.{Output as Printed, Appends}
 use Rattle.frame_tool.specs.declared.outcome.Outcome.{Outcome}
-use Rattle.frame_tool.specs.declared.outcome.Outcome.TheVariants.{Done, Fault, Usage, Device, NoMemory}
+use Rattle.frame_tool.specs.declared.outcome.Outcome.TheVariants.{Done, Fault, Clash, FramesLimit, OutputLimit, Usage, Device, NoMemory}
 use Rattle.frame_tool.specs.declared.verdict.Verdict.{Verdict}
 use Rattle.frame_tool.specs.declared.verdict.Verdict.TheVariants.{Sound, Wrong}
-use Rattle.frame_tool.specs.Outcome.{line_of}
-use Rattle.frame_tool.specs.Words.{Form, WalkFile, CheckFile, ListFile, command_of}
+use Rattle.splicer.specs.Due.{Due, HoldBytes, answer_of, is_whole, output_of}
+use Rattle.splicer.specs.Due as SpliceDue
+use Rattle.splicer.specs.Left.{LeavesFile}
+use Rattle.frame_tool.specs.Outcome.{line_of, spliced}
+use Rattle.frame_tool.specs.Words.{Form, WalkFile, CheckFile, ListFile, SpliceFiles, command_of}
 use Rattle.frame_tool.specs.declared.judgement.Finding.{Finding}
 use Rattle.frame_tool.specs.declared.judgement.Finding.TheVariants.{Accepted, Refused}
 use Rattle.frame_tool.specs.declared.judgement.Report.{Report}
@@ -22,9 +25,15 @@ use Rattle.frame_tool.specs.Walk.{IsVerdict}
 use Rattle.frame_tool.specs.Check.{IsFinding}
 use Rattle.frame_tool.specs.Listing.{list_text}
 
+-- what is written: nothing, or these bytes to the file of a name, a whole file or the beginning of one
+pub data Output : Type 0 where
+  Nothing : Output
+  Bytes : (to : List ℕ) (whole : Bool) (bytes : List ℕ) → Output
+
 pub record Reply : Type 0 where
   pub outcome : Outcome
   pub text : List ℕ
+  pub output : Output
 
 abbrev pub order_name : Order → List ℕ
 order_name Big = codes "big"
@@ -36,11 +45,11 @@ walk_text order count = codes "order: "
 
 -- an answer that prints its line alone
 abbrev pub reply_with : Outcome → Reply
-reply_with outcome = record { outcome = outcome; text = line_of outcome }
+reply_with outcome = record { outcome = outcome; text = line_of outcome; output = Nothing }
 
 -- the reply of `walk` by the verdict
 abbrev pub walk_reply : Verdict → Reply
-walk_reply (Sound order count) = record { outcome = Done; text = walk_text order count }
+walk_reply (Sound order count) = record { outcome = Done; text = walk_text order count; output = Nothing }
 walk_reply (Wrong at reason) = reply_with (Fault 0 at 0 reason)
 
 abbrev pub state_name : TableState → List ℕ
@@ -66,7 +75,8 @@ report_text Channels contents = list_text contents.channels
 
 -- the reply of `check` and `list` by what is found
 abbrev pub finding_reply : Report → Finding → Reply
-finding_reply report (Accepted contents) = record { outcome = Done; text = report_text report contents }
+finding_reply report (Accepted contents) =
+    record { outcome = Done; text = report_text report contents; output = Nothing }
 finding_reply report (Refused fault) = reply_with (Fault 0 fault.at fault.field fault.reason)
 
 -- the command that asks for it
@@ -86,11 +96,23 @@ IsWalkDue = IsFileDue IsVerdict walk_reply
 abbrev pub IsReportDue : Report → Option (List ℕ) → Reply → Type 0
 IsReportDue report = IsFileDue IsFinding (finding_reply report)
 
+-- the reply of a splice by what is due of it
+abbrev pub splice_reply : List ℕ → Due → Reply
+splice_reply to due = record {
+  outcome = spliced (answer_of due);
+  text = line_of (spliced (answer_of due));
+  output = Bytes to (is_whole due) (output_of due);
+}
+
+abbrev pub IsSpliceDue : List ℕ → List (List ℕ) → Files → Reply → Type 0
+IsSpliceDue to from files reply = (due : Due) × SpliceDue.IsDue files from due × (reply ≡ splice_reply to due)
+
 abbrev pub IsCommandDue : Files → Option Form → Reply → Type 0
 IsCommandDue files None reply = reply ≡ reply_with Usage
 IsCommandDue files (Some (WalkFile file)) reply = IsWalkDue (files file) reply
 IsCommandDue files (Some (CheckFile file)) reply = IsReportDue Summary (files file) reply
 IsCommandDue files (Some (ListFile file)) reply = IsReportDue Channels (files file) reply
+IsCommandDue files (Some (SpliceFiles to from)) reply = IsSpliceDue to from files reply
 
 -- the reply that is due to words over the files that are held
 abbrev pub IsDue : Files → List (List ℕ) → Reply → Type 0
@@ -100,7 +122,7 @@ IsDue files words reply = IsCommandDue files (command_of words) reply
 abbrev pub IsAnswer : Outcome → Outcome → Type 0
 IsAnswer outcome due = (outcome ≡ due) ⊎ ((outcome ≡ Device) ⊎ (outcome ≡ NoMemory))
 
--- The answers of a command, whatever the files hold: the one input has number 0, and a walk names field 0.
+-- The answers of a command, whatever the files hold: a single input has number 0, and a walk names field 0.
 abbrev pub IsAmong : Outcome → Option Form → Type 0
 IsAmong Device command = ⊤
 IsAmong NoMemory command = ⊤
@@ -109,22 +131,27 @@ IsAmong Done (Some form) = ⊤
 IsAmong (Fault file at field reason) (Some (WalkFile name)) = (file ≡ 0) × (field ≡ 0)
 IsAmong (Fault file at field reason) (Some (CheckFile name)) = file ≡ 0
 IsAmong (Fault file at field reason) (Some (ListFile name)) = file ≡ 0
+IsAmong (Fault file at field reason) (Some (SpliceFiles to from)) = file < length from
+IsAmong (Clash file class) (Some (SpliceFiles to from)) = file < length from
+IsAmong FramesLimit (Some (SpliceFiles to from)) = ⊤
+IsAmong OutputLimit (Some (SpliceFiles to from)) = ⊤
 IsAmong _ command = ⊥
 
 -- a front of the text was appended
-pub record AppendsFront (old new : Output) (text : List ℕ) : Type 0 where
+pub record AppendsFront (old new : Printed) (text : List ℕ) : Type 0 where
   pub count : ℕ
   pub appends : Appends old new (take count text)
 
 -- the text was printed, after Device and NoMemory a front of it
-abbrev pub Prints : Outcome → List ℕ → Output → Output → Type 0
+abbrev pub Prints : Outcome → List ℕ → Printed → Printed → Type 0
 Prints Device text old new = AppendsFront old new text
 Prints NoMemory text old new = AppendsFront old new text
 Prints _ text old new = Appends old new text
 
--- words over files have a reply that is due
+-- words over files that hold bytes have a reply that is due
 abbrev pub EachRunHasADueReply : Type 0
-EachRunHasADueReply = (files : Files) (words : List (List ℕ)) → (reply : Reply) × IsDue files words reply
+EachRunHasADueReply =
+    (files : Files) (words : List (List ℕ)) → HoldBytes files → (reply : Reply) × IsDue files words reply
 
 -- and no two
 abbrev pub NoRunHasTwoDueReplies : Type 0

@@ -6,3 +6,4 @@ pub mod Check
 pub mod Joined
 pub mod Listing
 pub mod Due
+pub mod Run

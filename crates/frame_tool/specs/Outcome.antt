@@ -1,11 +1,14 @@
 -- The answers of a run: the status of each, and the line that is printed last.
-use Rattle.std.specs.Prelude.{ℕ, List, [], ◌++◌, codes}
+use Rattle.std.specs.Prelude.{ℕ, List, [], ◌++◌, codes, Result, Ok, Err}
 use Rattle.std.specs.Fmt.{decimal}
 use Rattle.frame_tool.specs.declared.outcome.Outcome.{Outcome}
 use Rattle.frame_tool.specs.declared.outcome.Outcome.TheVariants.{Done, Same, Different, Fault, NoChannel, NoTable}
 use Rattle.frame_tool.specs.declared.outcome.Outcome.TheVariants.{TableLies, Clash, OutputLimit, FramesLimit, Usage}
 use Rattle.frame_tool.specs.declared.outcome.Outcome.TheVariants.{Device, NoMemory}
 use Rattle.file_grammar.specs.Reason.{number_of, name_of}
+use Rattle.canonical_writer.specs.declared.writer.Summary.{Summary}
+use Rattle.splicer.specs.declared.errors.SpliceError.{SpliceError}
+use Rattle.splicer.specs.declared.errors.SpliceError.TheVariants as splice
 
 abbrev pub status_of : Outcome → ℕ
 status_of Done = 0
@@ -39,3 +42,16 @@ line_of FramesLimit = codes "frames limit\n"
 line_of Usage = codes "usage\n"
 line_of Device = []
 line_of NoMemory = []
+
+-- the answer where a splice was not written whole, and where it was
+abbrev pub stopped : SpliceError → Outcome
+stopped (splice.Fault file fault) = Fault file fault.at fault.field fault.reason
+stopped (splice.Clash file class) = Clash file class
+stopped splice.FramesLimit = FramesLimit
+stopped splice.OutputLimit = OutputLimit
+stopped splice.Device = Device
+stopped splice.NoMemory = NoMemory
+
+abbrev pub spliced : Result Summary SpliceError → Outcome
+spliced (Ok summary) = Done
+spliced (Err error) = stopped error

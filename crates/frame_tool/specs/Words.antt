@@ -1,33 +1,63 @@
 -- The words of the command line. A command that is not built yet is none.
-use Rattle.std.specs.Prelude.{List, [], ◌∷◌, ℕ, map, codes, Option, Some, None, if◌then◌else◌}
+use Rattle.std.specs.Prelude.{List, [], ◌∷◌, ℕ, length, map, nat_le, codes, ◌||◌, ◌^◌, option_map, Option, Some, None, if◌then◌else◌}
+use Rattle.std.specs.Prelude.{is_empty}
+use Rattle.std.specs.List.{list_any}
 use Rattle.std.specs.Str.{bytes_eq}
 use Rattle.std.specs.String.{string_bytes}
 use Rattle.std.specs.declared.string.String.{String}
 use Rattle.frame_tool.specs.declared.command.Command.{Command}
-use Rattle.frame_tool.specs.declared.command.Command.TheVariants.{Walk, Check, List as ListCommand}
+use Rattle.frame_tool.specs.declared.command.Command.TheVariants.{Walk, Check, List as ListCommand, Splice}
 
 -- a command with its words as lists of bytes
 pub data Form : Type 0 where
   WalkFile : (file : List ℕ) → Form
   CheckFile : (file : List ℕ) → Form
   ListFile : (file : List ℕ) → Form
+  SpliceFiles : (to : List ℕ) (from : List (List ℕ)) → Form
+
+-- the words as lists of bytes
+abbrev pub texts : {A : Type 0} → List (String A) → List (List ℕ)
+texts words = map string_bytes words
 
 abbrev pub form_of : Command → Form
 form_of (Walk file) = WalkFile file.now
 form_of (Check file) = CheckFile file.now
 form_of (ListCommand file) = ListFile file.now
+form_of (Splice to from) = SpliceFiles to.now (texts from.now)
+
+-- one word
+abbrev pub single : List (List ℕ) → Option (List ℕ)
+single (word ∷ []) = Some word
+single _ = None
+
+-- the splice of files to one that is none of them
+abbrev pub apart : List ℕ → List (List ℕ) → Option Form
+apart to from = if list_any (bytes_eq to) from then None else Some (SpliceFiles to from)
+
+-- FILE OUT
+abbrev pub copied : List (List ℕ) → Option Form
+copied (file ∷ to ∷ []) = apart to (file ∷ [])
+copied _ = None
+
+-- OUT FILES: one file or more, fewer than 2^32
+abbrev pub spliced : List (List ℕ) → Option Form
+spliced (to ∷ from) = if is_empty from || nat_le (2 ^ 32) (length from) then None else apart to from
+spliced [] = None
 
 -- the command of its first word
-abbrev pub command_named : List ℕ → List ℕ → Option Form
-command_named word file =
-    if bytes_eq word (codes "walk") then Some (WalkFile file)
-    else (if bytes_eq word (codes "check") then Some (CheckFile file)
-    else (if bytes_eq word (codes "list") then Some (ListFile file) else None))
+abbrev pub command_named : List ℕ → List (List ℕ) → Option Form
+command_named word words =
+    if bytes_eq word (codes "walk") then option_map WalkFile (single words)
+    else (if bytes_eq word (codes "check") then option_map CheckFile (single words)
+    else (if bytes_eq word (codes "list") then option_map ListFile (single words)
+    else (if bytes_eq word (codes "copy") then copied words
+    else (if bytes_eq word (codes "splice") then spliced words else None))))
 
 abbrev pub command_of : List (List ℕ) → Option Form
-command_of (word ∷ file ∷ []) = command_named word file
-command_of _ = None
+command_of [] = None
+command_of (word ∷ words) = command_named word words
 
--- the words as lists of bytes
-abbrev pub texts : {A : Type 0} → List (String A) → List (List ℕ)
-texts words = map string_bytes words
+-- the file that a command writes
+abbrev pub output_of : Option Form → Option (List ℕ)
+output_of (Some (SpliceFiles to from)) = Some to
+output_of command = None

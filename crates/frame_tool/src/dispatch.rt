@@ -1,12 +1,10 @@
 //! One run of the program: from the words to the answer and the printed text.
 
-ghost use Rattle.std.specs.Prelude.{◌≡◌, ◌⊎◌, ◌+◌, ◌≤◌, ◌<◌, length, take, None, Some};
-ghost use Rattle.frame_outside.specs.Counts.{Rose};
-ghost use Rattle.frame_outside.specs.Shelf.{Told};
-ghost use Rattle.frame_tool.specs.Words.{WalkFile, command_of, texts};
-ghost use Rattle.frame_tool.specs.Due.{Reply, IsDue, IsWalkDue, IsReportDue, IsAnswer, IsAmong, Prints};
-ghost use Rattle.frame_tool.specs.Due.{reply_with, form_asking};
-ghost use Rattle.frame_tool.specs.WalkSteps.{ReadsOneFile};
+ghost use Rattle.std.specs.Prelude.{◌≢◌, ◌<◌, ◌+◌, ◌^◌, length, All, Some};
+ghost use Rattle.std.specs.String.{string_bytes};
+ghost use Rattle.frame_tool.specs.Words.{WalkFile, SpliceFiles, texts};
+ghost use Rattle.frame_tool.specs.Due.{IsWalkDue, IsReportDue, IsSpliceDue, form_asking};
+ghost use Rattle.frame_tool.specs.Run.{Runs, Replies};
 
 use crate::answer::{answer_finding, answer_line, answer_walk};
 use crate::check::check_file;
@@ -15,65 +13,36 @@ use crate::judgement::Report;
 use crate::outcome::Outcome;
 use crate::walk::walk_file;
 use frame_outside::{Shelf, ShelfError, Sink};
+use splicer::{SpliceError, splice};
 use std::alloc::Global;
 
-/// Does all that the words ask for: reads the shelf, prints to the sink, and answers.
+/// Does all that the words ask for: reads and writes the shelf, prints to the sink, and answers.
 ///
-/// An input is opened before anything is printed, and the text is printed in one piece. The sink
-/// then holds what it held and the text that is due, or after `Device` and `NoMemory` a front of it.
+/// An input is opened before anything is made or printed, and the text is printed in one piece. The sink then holds what it
+/// held and the text that is due, or after `Device` and `NoMemory` a front of it; the file that is written holds what is
+/// due to it, or after these what it held or a part of that.
 pub fn run<S: Shelf, O: Sink>(
     alloc: Global,
     words: &[String],
     shelf: &mut S,
     out: &mut O,
 ) -> Outcome
-    ensures answer { Told (S.outside shelf.old).files (λ files. (reply : Reply)
-        → IsDue files (texts words.now) reply → IsAnswer result reply.outcome) }
-    ensures text { Told (S.outside shelf.old).files (λ files. (reply : Reply)
-        → IsDue files (texts words.now) reply
-        → Prints result reply.text (O.output out.old) (O.output out.new)) }
-
-    // Over every shelf, also one that tells nothing.
-    ensures among { IsAmong result (command_of (texts words.now)) }
-    ensures usage { result ≡ Outcome.Usage → command_of (texts words.now) ≡ None }
-    ensures no_command { command_of (texts words.now) ≡ None → IsAnswer result Outcome.Usage }
-    ensures device { result ≡ Outcome.Device → Rose (S.outside shelf.old).faults (S.outside shelf.new).faults
-        ⊎ Rose (O.output out.old).faults (O.output out.new).faults }
-    ensures counts { ((S.outside shelf.old).faults ≤ (S.outside shelf.new).faults)
-        × ((S.outside shelf.old).misses ≤ (S.outside shelf.new).misses) }
-    ensures sink { (O.output out.old).faults ≤ (O.output out.new).faults }
-
-    // What the shelf is then.
-    ensures files { (S.outside shelf.new).files ≡ (S.outside shelf.old).files }
-    ensures slots { take (length (S.outside shelf.old).slots) (S.outside shelf.new).slots
-        ≡ (S.outside shelf.old).slots }
-    ensures given { length (S.outside shelf.new).slots ≤ length (S.outside shelf.old).slots + length words.now }
-    ensures misses { Told (S.outside shelf.old).files
-        (λ files. (S.outside shelf.old).misses < (S.outside shelf.new).misses
-        → IsDue files (texts words.now) (reply_with Outcome.Device)) }
+    ensures { Runs (texts words.now) (S.outside shelf.old) (S.outside shelf.new) (O.output out.old)
+        (O.output out.new) result }
 {
     match read_words(words) {
         None => answer_line(alloc, out, Outcome::Usage),
         Some(Command::Walk { file }) => run_walk(alloc, file, shelf, out),
         Some(Command::Check { file }) => run_report(alloc, Report::Summary, file, shelf, out),
         Some(Command::List { file }) => run_report(alloc, Report::Channels, file, shelf, out),
+        Some(Command::Splice { to, from }) => run_splice(alloc, to, from, shelf, out),
     }
 }
 
 /// `walk FILE`.
 fn run_walk<S: Shelf, O: Sink>(alloc: Global, file: &str, shelf: &mut S, out: &mut O) -> Outcome
-    ensures answer { Told (S.outside shelf.old).files (λ files. (reply : Reply)
-        → IsWalkDue (files file.now) reply → IsAnswer result reply.outcome) }
-    ensures text { Told (S.outside shelf.old).files (λ files. (reply : Reply) → IsWalkDue (files file.now) reply
-        → Prints result reply.text (O.output out.old) (O.output out.new)) }
-    ensures among { IsAmong result (Some (WalkFile file.now)) }
-    ensures device { result ≡ Outcome.Device → Rose (S.outside shelf.old).faults (S.outside shelf.new).faults
-        ⊎ Rose (O.output out.old).faults (O.output out.new).faults }
-    ensures sink { (O.output out.old).faults ≤ (O.output out.new).faults }
-    ensures shelf { ReadsOneFile (S.outside shelf.old) (S.outside shelf.new) file.now }
-    ensures misses { Told (S.outside shelf.old).files
-        (λ files. (S.outside shelf.old).misses < (S.outside shelf.new).misses
-        → IsWalkDue (files file.now) (reply_with Outcome.Device)) }
+    ensures { Replies (λ files reply. IsWalkDue (files file.now) reply) (Some (WalkFile file.now)) 1
+        (S.outside shelf.old) (S.outside shelf.new) (O.output out.old) (O.output out.new) result }
 {
     match walk_file(alloc, shelf, file) {
         Ok(verdict) => answer_walk(alloc, out, verdict),
@@ -90,23 +59,35 @@ fn run_report<S: Shelf, O: Sink>(
     shelf: &mut S,
     out: &mut O,
 ) -> Outcome
-    ensures answer { Told (S.outside shelf.old).files (λ files. (reply : Reply)
-        → IsReportDue report (files file.now) reply → IsAnswer result reply.outcome) }
-    ensures text { Told (S.outside shelf.old).files (λ files. (reply : Reply)
-        → IsReportDue report (files file.now) reply
-        → Prints result reply.text (O.output out.old) (O.output out.new)) }
-    ensures among { IsAmong result (Some (form_asking report file.now)) }
-    ensures device { result ≡ Outcome.Device → Rose (S.outside shelf.old).faults (S.outside shelf.new).faults
-        ⊎ Rose (O.output out.old).faults (O.output out.new).faults }
-    ensures sink { (O.output out.old).faults ≤ (O.output out.new).faults }
-    ensures shelf { ReadsOneFile (S.outside shelf.old) (S.outside shelf.new) file.now }
-    ensures misses { Told (S.outside shelf.old).files
-        (λ files. (S.outside shelf.old).misses < (S.outside shelf.new).misses
-        → IsReportDue report (files file.now) (reply_with Outcome.Device)) }
+    ensures { Replies (λ files reply. IsReportDue report (files file.now) reply)
+        (Some (form_asking report file.now)) 1 (S.outside shelf.old) (S.outside shelf.new) (O.output out.old)
+        (O.output out.new) result }
 {
     match check_file(alloc, shelf, file) {
         Ok(finding) => answer_finding(alloc, out, report, finding),
         Err(ShelfError::Failed) => Outcome::Device,
         Err(ShelfError::NoMemory) => Outcome::NoMemory,
+    }
+}
+
+/// `splice OUT FILES` and `copy FILE OUT`.
+fn run_splice<S: Shelf, O: Sink>(
+    alloc: Global,
+    to: &str,
+    from: &[String],
+    shelf: &mut S,
+    out: &mut O,
+) -> Outcome
+    requires some { 0 < length from.now }
+    requires few { length from.now < 2 ^ 32 }
+    requires apart { All (λ name. string_bytes name ≢ to.now) from.now }
+    ensures { Replies (IsSpliceDue to.now (texts from.now)) (Some (SpliceFiles to.now (texts from.now)))
+        (length from.now + 1) (S.outside shelf.old) (S.outside shelf.new) (O.output out.old) (O.output out.new)
+        result }
+{
+    match splice(alloc, shelf, to, from) {
+        Ok(_) => Outcome::Done,
+        Err(SpliceError::Device) => Outcome::Device,
+        Err(error) => answer_line(alloc, out, Outcome::from(error)),
     }
 }

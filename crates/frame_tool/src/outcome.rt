@@ -5,6 +5,7 @@ ghost use Rattle.std.specs.String.{string_bytes};
 ghost use Rattle.frame_tool.specs.Outcome.{status_of, line_of};
 
 use file_grammar::Reason;
+use splicer::SpliceError;
 use std::alloc::{AllocError, Global};
 
 /// The answer of a run.
@@ -104,4 +105,27 @@ fn fault_line(
     let number = reason.number();
     let name = reason.name();
     format!(in alloc; "fault: file {file} at {at} field {field}: {number} {name}\n")
+}
+
+impl From<SpliceError> for Outcome {
+    ghost use Rattle.std.specs.Prelude.{◌≡◌};
+    ghost use Rattle.frame_tool.specs.Outcome.{stopped};
+
+    ghost from_gives = { λ error result. result ≡ stopped error };
+
+    fn from(error: SpliceError) -> Outcome {
+        match error {
+            SpliceError::Fault { file, fault } => Outcome::Fault {
+                file,
+                at: fault.at,
+                field: fault.field,
+                reason: fault.reason,
+            },
+            SpliceError::Clash { file, class } => Outcome::Clash { file, class },
+            SpliceError::FramesLimit => Outcome::FramesLimit,
+            SpliceError::OutputLimit => Outcome::OutputLimit,
+            SpliceError::Device => Outcome::Device,
+            SpliceError::NoMemory => Outcome::NoMemory,
+        }
+    }
 }

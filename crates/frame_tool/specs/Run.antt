@@ -1,0 +1,53 @@
+-- What a run does, by the reply that is due: the clauses that all commands share.
+use Rattle.std.specs.Prelude.{◌≡◌, ℕ, ◌+◌, ◌<◌, ◌≤◌, ◌⊎◌, Bool, true, false, List, length, take, Option, Some, None}
+use Rattle.frame_outside.specs.Counts.{Rose}
+use Rattle.frame_outside.specs.Shelf.{Files, Outside, Told}
+use Rattle.frame_outside.specs.Sink.{Output as Printed}
+use Rattle.splicer.specs.Left.{LeavesFile}
+use Rattle.splicer.specs.Made.{KeepsSlots, KeepsFiles}
+use Rattle.frame_tool.specs.declared.outcome.Outcome.{Outcome}
+use Rattle.frame_tool.specs.declared.outcome.Outcome.TheVariants.{Usage, Device, NoMemory}
+use Rattle.frame_tool.specs.Words.{Form, command_of, output_of}
+use Rattle.frame_tool.specs.Due.{Reply, Output, Nothing, Bytes, IsDue, IsAnswer, IsAmong, Prints}
+
+-- the outside or memory failed
+abbrev pub has_failed : Outcome → Bool
+has_failed Device = true
+has_failed NoMemory = true
+has_failed outcome = false
+
+-- what the files are then
+abbrev pub Leaves : Files → Option Files → Outcome → Output → Type 0
+Leaves files new outcome Nothing = new ≡ Some files
+Leaves files new outcome (Bytes to whole bytes) = LeavesFile (has_failed outcome) files new to whole bytes
+
+-- The slots that were given before and the files stay, but for the file that is written: no such slot writes it any more.
+abbrev pub Keeps : Option (List ℕ) → Outside → Outside → Type 0
+Keeps None old new = (take (length old.slots) new.slots ≡ old.slots) × (new.files ≡ old.files)
+Keeps (Some to) old new = KeepsSlots old new to × KeepsFiles old new to
+
+-- A command of so many words, to which this is due, was run from an outside and a sink to those after it, and answered.
+pub record Replies (IsDueTo : Files → Reply → Type 0) (command : Option Form) (words : ℕ) (old new : Outside)
+    (before after : Printed) (outcome : Outcome) : Type 0 where
+  -- over a shelf that tells its files: the answer is the due one, or Device or NoMemory; the text is printed, and the file
+  -- is written, as they are due; and a name that is not held is asked for only where Device is due
+  pub answer : Told old.files (λ files. (reply : Reply) → IsDueTo files reply → IsAnswer outcome reply.outcome)
+  pub text : Told old.files (λ files. (reply : Reply) → IsDueTo files reply → Prints outcome reply.text before after)
+  pub output : Told old.files (λ files. (reply : Reply) → IsDueTo files reply
+      → Leaves files new.files outcome reply.output)
+  pub misses : Told old.files (λ files. old.misses < new.misses → (reply : Reply) → IsDueTo files reply
+      → reply.outcome ≡ Device)
+  -- over every shelf
+  pub among : IsAmong outcome command
+  pub usage : command ≡ None → IsAnswer outcome Usage
+  pub device : outcome ≡ Device → Rose old.faults new.faults ⊎ Rose before.faults after.faults
+  pub faults : old.faults ≤ new.faults
+  pub missed : old.misses ≤ new.misses
+  pub sink : before.faults ≤ after.faults
+  pub keeps : Keeps (output_of command) old new
+  pub given : length new.slots ≤ length old.slots + words
+
+-- The words were run.
+abbrev pub Runs : List (List ℕ) → Outside → Outside → Printed → Printed → Outcome → Type 0
+Runs words old new before after outcome =
+    Replies (λ files reply. IsDue files words reply) (command_of words) (length words) old new before after outcome

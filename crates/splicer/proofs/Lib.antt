@@ -1,0 +1,5 @@
+pub mod Courses
+pub mod FirstItems
+pub mod Dues
+pub mod Making
+pub mod ItemsCome

@@ -1,0 +1,6 @@
+pub mod Left
+pub mod Due
+pub mod Errors
+pub mod Closings
+pub mod Made
+pub mod Put
