@@ -21,6 +21,8 @@ mod tests_of_channels;
 #[cfg(test)]
 mod tests_of_check;
 #[cfg(test)]
+mod tests_of_copies;
+#[cfg(test)]
 mod tests_of_frames;
 #[cfg(test)]
 mod tests_of_reader;

@@ -154,8 +154,30 @@ pub fn run_over(
     file: &[u8],
     words: &[&str],
 ) -> Result<(u8, Vec<u8>), AllocError> {
+    let run = run_with(alloc, outside, &[("f", file)], words, "f")?;
+    Ok((run.status, run.printed))
+}
+
+/// What a run leaves: its status, its text, and the file of a name.
+#[derive(Drop)]
+pub struct Run {
+    pub status: u8,
+    pub printed: Vec<u8>,
+    pub output: Option<Vec<u8>>,
+}
+
+/// A run over a shelf that holds these files, and what the file of a name holds after it.
+pub fn run_with(
+    alloc: Global,
+    outside: Outside,
+    files: &[(&str, &[u8])],
+    words: &[&str],
+    output: &str,
+) -> Result<Run, AllocError> {
     let mut shelf = MemShelf::new(alloc);
-    shelf.with_file("f", file)?;
+    for (name, file) in files {
+        shelf.with_file(name, file)?;
+    }
     shelf.largest(outside.most.max(1));
     shelf.fail_at(outside.shelf_call)?;
     let mut out = MemSink::new(alloc);
@@ -165,5 +187,12 @@ pub fn run_over(
         owned.push(String::from_str(alloc, word)?)?;
     }
     let outcome = run(alloc, owned.as_slice(), &mut shelf, &mut out);
-    Ok((outcome.status(), Vec::from_slice(alloc, out.bytes())?))
+    Ok(Run {
+        status: outcome.status(),
+        printed: Vec::from_slice(alloc, out.bytes())?,
+        output: match shelf.file(output) {
+            Some(bytes) => Some(Vec::from_slice(alloc, bytes)?),
+            None => None,
+        },
+    })
 }

@@ -23,9 +23,16 @@ pub course-append : (closing : Option Closing) (stood fs gs : List Frame)
     → course closing stood (fs ++ gs) ≡ course_then (course closing stood fs) (λ s. course closing s gs)
 course-append closing stood [] gs = refl
 course-append closing stood (f ∷ fs) gs =
-    ap (course_by (frame_due closing (after_frames begun stood) f) stood) (course-append closing (stood ++ f ∷ []) fs gs)
+    ap (course_by (frame_due closing (after_frames begun stood) f) stood)
+    (course-append closing (stood ++ f ∷ []) fs gs)
     ∙ sym (by-then (frame_due closing (after_frames begun stood) f) stood (course closing (stood ++ f ∷ []) fs)
     (λ s. course closing s gs))
+
+-- after a frame that is refused, no more is judged
+pub course-refused : (closing : Option Closing) (stood fs gs then_stand : List Frame) (error : WriteError)
+    → course closing stood fs ≡ Refuses error then_stand → course closing stood (fs ++ gs) ≡ Refuses error then_stand
+course-refused closing stood fs gs then_stand error refuses =
+    course-append closing stood fs gs ∙ ap (λ (c : Course). course_then c (λ s. course closing s gs)) refuses
 
 -- the frames that stand after a course
 abbrev pub stood_of : Course → List Frame
@@ -46,18 +53,47 @@ course-longer closing stood (f ∷ fs) =
     by (Err error) later = ([], sym (append-nil stood))
     by (Ok x) (more, is) = (f ∷ more, is ∙ append_assoc stood (f ∷ []) more)
 
+-- frames that stand after a course that passes are those that stand after it
+same-passed : {stood then_stand : List Frame} → Passes stood ≡ Passes then_stand → stood ≡ then_stand
+same-passed same = ap stood_of same
+
 -- where all frames pass, just these stand
 pub passes-stood : (closing : Option Closing) (stood fs then_stand : List Frame)
     → course closing stood fs ≡ Passes then_stand → then_stand ≡ stood ++ fs
-passes-stood closing stood fs then_stand passes = ?
+passes-stood closing stood [] then_stand passes = sym (same-passed passes) ∙ sym (append-nil stood)
+passes-stood closing stood (f ∷ fs) then_stand passes =
+    by (frame_due closing (after_frames begun stood) f) (passes-stood closing (stood ++ f ∷ []) fs then_stand) passes
+  where
+    by : (due : Result Unit WriteError)
+        → (course closing (stood ++ f ∷ []) fs ≡ Passes then_stand → then_stand ≡ (stood ++ f ∷ []) ++ fs)
+        → course_by due stood (course closing (stood ++ f ∷ []) fs) ≡ Passes then_stand → then_stand ≡ stood ++ f ∷ fs
+    by (Err error) later refused = absurd cc
+    by (Ok x) later taken = later taken ∙ append_assoc stood (f ∷ []) fs
+
+-- after frames that pass, the course goes on from those that stand then
+pub course-after : (closing : Option Closing) (stood fs gs then_stand : List Frame)
+    → course closing stood fs ≡ Passes then_stand → course closing stood (fs ++ gs) ≡ course closing then_stand gs
+course-after closing stood fs gs then_stand passes =
+    course-append closing stood fs gs ∙ ap (λ (c : Course). course_then c (λ s. course closing s gs)) passes
+
+-- one more frame is judged after those that passed
+course-next : (closing : Option Closing) (stood fs then_stand : List Frame) (f : Frame)
+    → course closing stood fs ≡ Passes then_stand
+    → course closing stood (fs ++ f ∷ []) ≡ course_by (frame_due closing (after_frames begun then_stand) f) then_stand
+    (Passes (then_stand ++ f ∷ []))
+course-next closing stood fs then_stand f passes = course-after closing stood fs (f ∷ []) then_stand passes
 
 -- one more frame that is taken, and one that is refused
 pub passes-more : (closing : Option Closing) (stood fs then_stand : List Frame) (f : Frame)
     → course closing stood fs ≡ Passes then_stand → frame_due closing (after_frames begun then_stand) f ≡ Ok tt
     → course closing stood (fs ++ f ∷ []) ≡ Passes (then_stand ++ f ∷ [])
-passes-more closing stood fs then_stand f passes due = ?
+passes-more closing stood fs then_stand f passes due =
+    course-next closing stood fs then_stand f passes
+    ∙ ap (λ (due : Result Unit WriteError). course_by due then_stand (Passes (then_stand ++ f ∷ []))) due
 
 pub refuses-next : (closing : Option Closing) (stood fs then_stand : List Frame) (f : Frame) (error : WriteError)
     → course closing stood fs ≡ Passes then_stand → frame_due closing (after_frames begun then_stand) f ≡ Err error
     → course closing stood (fs ++ f ∷ []) ≡ Refuses error then_stand
-refuses-next closing stood fs then_stand f error passes due = ?
+refuses-next closing stood fs then_stand f error passes due =
+    course-next closing stood fs then_stand f passes
+    ∙ ap (λ (due : Result Unit WriteError). course_by due then_stand (Passes (then_stand ++ f ∷ []))) due

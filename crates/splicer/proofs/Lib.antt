@@ -3,3 +3,4 @@ pub mod FirstItems
 pub mod Dues
 pub mod Making
 pub mod ItemsCome
+pub mod Copies

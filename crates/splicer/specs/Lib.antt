@@ -4,3 +4,4 @@ pub mod Errors
 pub mod Closings
 pub mod Made
 pub mod Put
+pub mod Laws

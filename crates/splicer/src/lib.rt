@@ -4,8 +4,10 @@
 mod closings;
 mod errors;
 mod inputs;
+mod laws;
 mod splices;
 
 pub use canonical_writer::Summary;
 pub use errors::SpliceError;
+pub use laws::{copies_tell_contents, each_splice_has_one_due};
 pub use splices::splice;

@@ -1,0 +1,190 @@
+//! Runs of `copy` and `splice` over a shelf in memory: worked files with the file that each gives, and calls that fail in
+//! turn.
+
+use crate::pieces::Piece::{Bare, Bytes, End, Full, Rest, Times};
+use crate::pieces::{Piece, joined};
+use crate::worked_files::{BIG, LITTLE, ONE_FRAME, Outside, WHOLE, changed, run_with};
+use std::alloc::{AllocError, Global};
+use std::process::Abort;
+use std::test::Fail;
+
+/// The file that is to be written.
+#[derive(Clone, Copy)]
+enum Copied {
+    /// That without a frame.
+    Empty,
+    /// That of one frame.
+    OneFrame,
+    /// The file itself.
+    Itself,
+    /// One of so many bytes.
+    Size(usize),
+}
+
+/// A name, the pieces of a file, and its copy.
+type Row = (&'static str, &'static [Piece], Copied);
+
+#[test]
+fn copies_worked_files(rt: HostRuntime) -> Result<(), Fail> {
+    let alloc = rt.alloc();
+    let rows: [Row; 12] = [
+        ("no frame", &[Bare(0, 273)], Copied::Empty),
+        ("no frame, big-endian", &[Bytes(BIG)], Copied::Empty),
+        ("one frame", &[Full(0, 3637)], Copied::OneFrame),
+        (
+            "a comment in FrEndOfFile's entry",
+            &[
+                Bare(0, 40),
+                Bytes(b"("),
+                Bare(41, 70),
+                Bytes(b"\x04\0end\0"),
+                Bare(73, 253),
+                Bytes(b"\x14\x01\0\0\0\0\0\0"),
+                Bare(261, 273),
+            ],
+            Copied::Itself,
+        ),
+        (
+            "records in reverse order",
+            &[
+                Full(0, 40),
+                Full(1534, 2137),
+                Full(2415, 2505),
+                Full(1180, 1485),
+                Full(2366, 2415),
+                Full(2276, 2366),
+                Full(2227, 2276),
+                Full(2137, 2227),
+                Full(1485, 1534),
+                Full(839, 1180),
+                Full(640, 839),
+                Full(40, 640),
+                Full(2505, 3617),
+                End(0),
+            ],
+            Copied::OneFrame,
+        ),
+        (
+            "each unitY is of length 0",
+            &[
+                Full(0, 2137),
+                Bytes(b"Y"),
+                Full(2138, 2214),
+                Bytes(b"\0\0"),
+                Full(2217, 2276),
+                Bytes(b"Y"),
+                Full(2277, 2353),
+                Bytes(b"\0\0"),
+                Full(2356, 2415),
+                Bytes(b"Y"),
+                Full(2416, 2492),
+                Bytes(b"\0\0"),
+                Rest(2495),
+            ],
+            Copied::OneFrame,
+        ),
+        (
+            "H1:B's data leads to the vector of H1:A",
+            &[Full(0, 2264), Bytes(b"\0"), Full(2265, 2276), Rest(2366)],
+            Copied::Size(3547),
+        ),
+        (
+            "next of H1:A leads to H1:A",
+            &[Full(0, 1526), Bytes(b"\0"), Full(1527, 3637)],
+            Copied::Size(3329),
+        ),
+        (
+            "the same, and next of H1:C leads to H1:B",
+            &[
+                Full(0, 1526),
+                Bytes(b"\0"),
+                Full(1527, 2405),
+                Bytes(b"\x05\0\x01\0\0\0"),
+                Full(2411, 3637),
+            ],
+            Copied::Size(3329),
+        ),
+        (
+            "next of H1:A leads to H1:C",
+            &[Full(0, 1526), Bytes(b"\x02"), Full(1527, 3637)],
+            Copied::Size(3483),
+        ),
+        (
+            "FrameH of 65534 letters",
+            &[
+                Full(0, 569),
+                Bytes(b"C\0\x01\0\0\0\0\0"),
+                Full(577, 583),
+                Bytes(b"\xff\xff"),
+                Times(65534, b"a"),
+                Full(587, 3617),
+                End(0),
+            ],
+            Copied::Size(69169),
+        ),
+        (
+            "firstAdc is a list of one link",
+            &[
+                Full(0, 712),
+                Bytes(
+                    b"=\0\0\0\0\0\0\0\0\x02\x01\0\0\0\x09\0firstAdc\0\x1b\0PTR_STRUCT(FrAdcData *)[1]\0\x01\0\0\0\0\0\0",
+                ),
+                Full(770, 3617),
+                End(0),
+            ],
+            Copied::Size(3595),
+        ),
+    ];
+    for (name, pieces, copied) in rows {
+        let file = joined(alloc, pieces)?;
+        for most in [usize::MAX, 1] {
+            check_copy(
+                &rt,
+                alloc,
+                name,
+                Outside { most, ..WHOLE },
+                file.as_slice(),
+                copied,
+            )?;
+        }
+    }
+    Ok(())
+}
+
+/// Copies a file and the copy, and compares both with what is to be written.
+fn check_copy(
+    rt: &impl Abort,
+    alloc: Global,
+    name: &str,
+    outside: Outside,
+    file: &[u8],
+    copied: Copied,
+) -> Result<(), AllocError> {
+    let run = run_with(alloc, outside, &[("f", file)], &["copy", "f", "o"], "o")?;
+    assert_eq!(rt; run.status, 0, "{name}");
+    assert!(rt; run.printed.is_empty(), "{name}");
+    let Some(copy) = run.output else {
+        return Err(AllocError);
+    };
+    match copied {
+        Copied::Empty => assert_eq!(rt; copy.as_slice(), LITTLE, "{name}"),
+        Copied::OneFrame => assert_eq!(rt; copy.as_slice(), ONE_FRAME, "{name}"),
+        Copied::Itself => assert_eq!(rt; copy.as_slice(), file, "{name}"),
+        Copied::Size(size) => assert_eq!(rt; copy.len(), size, "{name}"),
+    }
+    let again = run_with(
+        alloc,
+        WHOLE,
+        &[("f", copy.as_slice())],
+        &["copy", "f", "o"],
+        "o",
+    )?;
+    assert!(rt;
+        again
+            .output
+            .as_ref()
+            .is_some_and(|twice| twice.as_slice() == copy.as_slice()),
+        "{name}"
+    );
+    Ok(())
+}

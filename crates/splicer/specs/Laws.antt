@@ -1,0 +1,44 @@
+-- The laws of splices and copies.
+use Rattle.std.specs.Prelude.{◌≡◌, ◌↔◌, ◌≤◌, ℕ, List, [], ◌∷◌, length, Some}
+use Rattle.frame_outside.specs.Shelf.{Files}
+use Rattle.file_grammar.specs.Structure.{file_limit}
+use Rattle.frame_content.specs.Frames.{Frame}
+use Rattle.canonical_file.specs.declared.closing.Closing.{Closing}
+use Rattle.canonical_file.specs.Written.{canonical_file}
+use Rattle.canonical_file.specs.Contents.{Content, SameContent, IsCanonical}
+use Rattle.canonical_laws.specs.Content.{HasContent}
+use Rattle.splicer.specs.Due.{Due, Writes, HoldBytes, IsDue}
+
+-- Of files that hold bytes a splice is due.
+abbrev pub EachSpliceHasADue : Type 0
+EachSpliceHasADue =
+    (files : Files) (name : List ℕ) (names : List (List ℕ)) → HoldBytes files → (due : Due) × IsDue files (name ∷ names) due
+
+-- And no two.
+abbrev pub NoSpliceHasTwoDues : Type 0
+NoSpliceHasTwoDues =
+    (files : Files) (names : List (List ℕ)) (first second : Due) → IsDue files names first → IsDue files names second
+    → first ≡ second
+
+-- a file is held and has this content, of which these bytes are the canonical file
+pub record IsCopyOf (files : Files) (name : List ℕ) (c : Content) (bytes : List ℕ) : Type 0 where
+  pub file : List ℕ
+  pub held : files name ≡ Some file
+  pub content : HasContent file c
+  pub canonical : IsCanonical c bytes
+
+-- What a copy writes whole is the canonical file of what the file holds.
+abbrev pub CopiesAreCanonical : Type 0
+CopiesAreCanonical =
+    (files : Files) (name : List ℕ) (closing : Closing) (frames : List Frame)
+    → IsDue files (name ∷ []) (Writes closing frames)
+    → (c : Content) × IsCopyOf files name c (canonical_file closing frames)
+
+-- Copies that are written whole, within the limit of files, are equal bytes exactly where their sources hold the same.
+abbrev pub CopiesTellContents : Type 0
+CopiesTellContents =
+    (files others : Files) (name other : List ℕ) (closing end : Closing) (frames ends : List Frame)
+    → IsDue files (name ∷ []) (Writes closing frames) → IsDue others (other ∷ []) (Writes end ends)
+    → (c d : Content) × IsCopyOf files name c (canonical_file closing frames)
+    × IsCopyOf others other d (canonical_file end ends)
+    × ((canonical_file closing frames ≡ canonical_file end ends) ↔ SameContent c d)

@@ -1,0 +1,17 @@
+//! The laws of splices and copies. Each is the contract of a function that does nothing: a crate that calls the function
+//! has the law.
+
+ghost use Rattle.splicer.specs.Laws.{EachSpliceHasADue, NoSpliceHasTwoDues, CopiesAreCanonical, CopiesTellContents};
+
+/// Of files that hold bytes exactly one splice is due.
+pub fn each_splice_has_one_due()
+    ensures exists { EachSpliceHasADue }
+    ensures unique { NoSpliceHasTwoDues }
+{}
+
+/// What a copy writes whole is the canonical file of what its source holds. So copies are equal bytes exactly where their
+/// sources hold the same.
+pub fn copies_tell_contents()
+    ensures canonical { CopiesAreCanonical }
+    ensures tell { CopiesTellContents }
+{}
