@@ -9,7 +9,7 @@ use Rattle.rooted_graph.proofs.Queues.{order_exists}
 use Rattle.file_grammar.specs.declared.fault.Fault.{Fault}
 use Rattle.file_grammar.specs.Structure.{Structure}
 use Rattle.file_grammar.specs.Item.{Item, Before, nothing_yet, after}
-use Rattle.file_grammar.specs.MayStand.{MayStand, Stand, Begins}
+use Rattle.file_grammar.specs.MayStand.{Stand, Begins}
 use Rattle.file_grammar.specs.Fault.{IsFirstFault}
 use Rattle.file_grammar.specs.Laws.{WellFormed}
 use Rattle.file_grammar.proofs.Headers.{same_order, begins-unfaulted}
@@ -22,7 +22,7 @@ use Rattle.canonical_file.specs.declared.closing.Closing.{Closing}
 use Rattle.canonical_file.specs.Contents.{Content}
 use Rattle.canonical_file.specs.Ordered.{frame_graph, ordered as in_its_order, IsInOrder}
 use Rattle.canonical_file.proofs.OneOrder.{same_in_orders}
-use Rattle.canonical_laws.specs.Content.{closing_by, HasContent}
+use Rattle.canonical_laws.specs.Content.{closing_by}
 use Rattle.canonical_laws.proofs.TellingApart.{one_content}
 use Rattle.splicer.specs.Due.{Ending, Closes, Breaks, Gives, frames_among}
 use Rattle.splicer.specs.Put.{AreFirst}
