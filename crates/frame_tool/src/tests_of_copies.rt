@@ -85,7 +85,7 @@ fn copies_worked_files(rt: HostRuntime) -> Result<(), Fail> {
         ),
         (
             "H1:B's data leads to the vector of H1:A",
-            &[Full(0, 2264), Bytes(b"\0"), Full(2265, 2276), Rest(2366)],
+            &[Full(0, 2262), Bytes(b"\0"), Full(2263, 2276), Rest(2366)],
             Copied::Size(3547),
         ),
         (

@@ -3,4 +3,5 @@ pub mod FirstItems
 pub mod Dues
 pub mod Making
 pub mod ItemsCome
+pub mod NamedEntries
 pub mod Copies

@@ -1,6 +1,6 @@
 //! The closing of a file, by its dictionary.
 
-ghost use Rattle.std.specs.Prelude.{◌≡◌, ◌≤◌, IfOk, IfSome, length, None, Some, Ok, option_and_then};
+ghost use Rattle.std.specs.Prelude.{◌≡◌, ◌≤◌, false, IfOk, IfSome, length, None, Some, Ok, option_and_then};
 ghost use Rattle.std.specs.Option.{option_copied};
 ghost use Rattle.dictionary.specs.Dictionary.{IsDictionary};
 ghost use Rattle.contents_table.specs.Fit.{is_fit};
@@ -20,7 +20,7 @@ const FILE_END: &[u8] = b"FrEndOfFile";
 const TABLE: &[u8] = b"FrTOC";
 
 /// What a file of this dictionary is closed with: the entry of FrEndOfFile, and that of FrTOC where it is fit for a
-/// contents table. None exactly where FrEndOfFile is not held with the layout that it has to have.
+/// contents table. None only where FrEndOfFile is not held with the layout that it has to have.
 pub fn closing_of(alloc: Global, dictionary: &Dictionary) -> Result<Option<Closing>, AllocError>
     ensures usable { IfOk result (λ closing. IfSome closing IsUsableClosing) }
     ensures closing { IfOk result
