@@ -4,4 +4,5 @@ pub mod Dues
 pub mod Making
 pub mod ItemsCome
 pub mod NamedEntries
+pub mod Closed
 pub mod Copies

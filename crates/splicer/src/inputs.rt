@@ -4,6 +4,7 @@ ghost use Rattle.std.specs.Prelude.{◌≡◌, ◌⊎◌, ◌≤◌, ℕ, List, 
 ghost use Rattle.std.specs.Prelude.{is_none};
 ghost use Rattle.frame_outside.specs.Counts.{Rose};
 ghost use Rattle.frame_outside.specs.Shelf.{Outside, Told, IsSource, IsTarget, reading_at};
+ghost use Rattle.file_grammar.specs.Item.{Before};
 ghost use Rattle.item_reader.specs.Reader.{Reader, Reads, Goes, HasEnded, file_of};
 ghost use Rattle.contents_table.specs.Layouts.{layouts_of};
 ghost use Rattle.contents_table.specs.declared.layouts.ChannelLayouts.{ChannelLayouts};

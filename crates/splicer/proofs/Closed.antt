@@ -1,0 +1,239 @@
+-- What an input leaves at its end: the closing of the first is held, and its entries agree with those that were used.
+use Rattle.std.proofs.Common.{◌≡◌, ℕ, Bool, true, false, cond, find, Option, Some, None, List, [], ◌∷◌, ◌++◌, length}
+use Rattle.std.proofs.Common.{refl, sym, ap, ◌∙◌, subst, arith, true≢false, is_none, IfSome, codes}
+use Rattle.std.proofs.lemmas.Bool.{false≢true}
+use Rattle.std.proofs.lemmas.List.{take_all}
+use Rattle.std.proofs.lemmas.List.Elements.{All-from_recursion}
+use Rattle.std.proofs.lemmas.Slice.Eq.{bytes_eq-Decides}
+use Rattle.std.specs.List.{AllByRecursion, AllZip}
+use Rattle.std.specs.Option.{option_map, option_map_or, option_to_list}
+use Rattle.std.specs.Str.{bytes_eq}
+use Rattle.scalar_types.specs.declared.Order.{Order}
+use Rattle.frame_outside.specs.Shelf.{Outside}
+use Rattle.dictionary.specs.declared.entries.Entry.{Entry}
+use Rattle.dictionary.specs.Dictionary.{class_named, IsDictionary}
+use Rattle.file_grammar.specs.Closing.{closes}
+use Rattle.file_grammar.specs.Item.{Item, Before, nothing_yet}
+use Rattle.file_grammar.specs.MayStand.{Begins, IsWellFormed}
+use Rattle.frame_content.specs.Frames.{Frame}
+use Rattle.contents_table.specs.declared.layouts.ChannelLayouts.{ChannelLayouts}
+use Rattle.canonical_file.specs.declared.closing.Closing.{Closing}
+use Rattle.canonical_file.specs.Ranges.{AreBytes}
+use Rattle.canonical_file.specs.Ordered.{IsInOrder}
+use Rattle.canonical_file.specs.Splices.{closing_entries, entries_used}
+use Rattle.canonical_file.specs.Written.{Written, begun, after_frames, canonical_head}
+use Rattle.canonical_laws.specs.Content.{closing_by}
+use Rattle.canonical_laws.specs.Writable.{IsWritableTable, IsWritableClosing}
+use Rattle.canonical_laws.specs.Sources.{printed_entries}
+use Rattle.canonical_laws.proofs.AgreeingEntries.{IsIn, AreIn}
+use Rattle.canonical_laws.proofs.FrameEntries.{frames-needed, none-needed}
+use Rattle.canonical_laws.proofs.KeptContents.{orders-writable}
+use Rattle.canonical_laws.proofs.SourceClosings.{HasFileEnd, stand-end, held-named, end-named}
+use Rattle.canonical_laws.proofs.SourceEntries.{AreSources, no-sources}
+use Rattle.canonical_laws.proofs.SourceFrames.{both}
+use Rattle.canonical_laws.proofs.SourceItems.{stand-source}
+use Rattle.canonical_laws.proofs.SourceStored.{IsOpenFrame, no-frame}
+use Rattle.canonical_laws.proofs.Sources.{source_entries, source_frames, source_closing}
+use Rattle.canonical_writer.specs.Parts.{AreConsistent}
+use Rattle.canonical_writer.specs.Writer.{Writer}
+use Rattle.item_reader.specs.Reader.{Reader, HasEnded}
+use Rattle.splicer.specs.Closings.{is_closed}
+use Rattle.splicer.specs.Due.{frames_among}
+use Rattle.splicer.specs.Made.{HasMade}
+use Rattle.splicer.specs.Put.{PutsAll, PutsPart, HasPut}
+use Rattle.splicer.proofs.Courses.{passes-stood}
+
+-- ---- the end of the file is held
+
+-- the dictionary of a well-formed file can close a file
+pub well_formed-closed : (file : List ℕ) (order : Order) (items : List Item) (last : Before) → AreBytes file
+    → IsWellFormed file order items last → is_closed last.dictionary ≡ true
+well_formed-closed file order items last bytes whole =
+    let nothing : IsOpenFrame order nothing_yet.dictionary nothing_yet.frame nothing_yet.load =
+    no-frame order nothing_yet.dictionary no-sources in
+    let sources : AreSources last.dictionary =
+    (stand-source order file nothing_yet last items bytes whole.begins.stand nothing).before.sources in
+    let end : HasFileEnd last.dictionary =
+    stand-end order file nothing_yet last items bytes whole.begins.stand nothing
+    (λ closed. absurd (true≢false (sym closed))) whole.closed in
+    ap (λ o. option_map_or (λ (e : Entry). closes e.elements) o false)
+    (held-named last.dictionary (codes "FrEndOfFile") end.class end.entry sources.sound refl
+    (end-named end.entry.name end.kind) end.held_is)
+    ∙ end.closing
+
+-- ---- entries of one dictionary agree
+
+-- an entry under its own name stays so with another one before it
+named-more : (dictionary : List Entry) (x : Entry) (xs : List Entry) (e : Entry) → IsDictionary dictionary
+    → IsIn dictionary x → IsIn dictionary e → class_named xs e.name ≡ Some e.class
+    → class_named (x ∷ xs) e.name ≡ Some e.class
+named-more dictionary x xs e sound here other later = by (bytes_eq e.name x.name) refl
+  where
+    by : (b : Bool) → bytes_eq e.name x.name ≡ b
+        → option_map (λ (y : Entry). y.class) (cond b (Some x) (find (λ (y : Entry). bytes_eq e.name y.name) xs))
+        ≡ Some e.class
+    by true same =
+        sym (sound.entries x.class x here).name
+        ∙ ap (class_named dictionary) (sym ((bytes_eq-Decides e.name x.name).0 same))
+        ∙ (sound.entries e.class e other).name
+    by false differ = later
+
+-- and so do all of some entries
+all-more : (dictionary : List Entry) (x : Entry) (xs es : List Entry) → IsDictionary dictionary → IsIn dictionary x
+    → AreIn dictionary es → AllByRecursion (λ e. class_named xs e.name ≡ Some e.class) es
+    → AllByRecursion (λ e. class_named (x ∷ xs) e.name ≡ Some e.class) es
+all-more dictionary x xs [] sound here all named = tt
+all-more dictionary x xs (e ∷ es) sound here all named =
+    (named-more dictionary x xs e sound here all.0 named.0, all-more dictionary x xs es sound here all.1 named.1)
+
+-- the first entry is found under its own name
+own-named : (x : Entry) (xs : List Entry) → class_named (x ∷ xs) x.name ≡ Some x.class
+own-named x xs =
+    ap (λ b. option_map (λ (y : Entry). y.class)
+    (cond b (Some x) (find (λ (y : Entry). bytes_eq x.name y.name) xs)))
+    ((bytes_eq-Decides x.name x.name).1 refl)
+
+-- each of them is found under its own name
+all-named : (dictionary used : List Entry) → IsDictionary dictionary → AreIn dictionary used
+    → AllByRecursion (λ e. class_named used e.name ≡ Some e.class) used
+all-named dictionary [] sound all = tt
+all-named dictionary (x ∷ xs) sound all =
+    (own-named x xs, all-more dictionary x xs xs sound all.0 all.1 (all-named dictionary xs sound all.1))
+
+-- Entries that one dictionary holds are each used under one class alone.
+pub consistent-in : (dictionary used : List Entry) → IsDictionary dictionary → AreIn dictionary used
+    → AreConsistent used
+consistent-in dictionary used sound all =
+    All-from_recursion (λ e. class_named used e.name ≡ Some e.class) used (all-named dictionary used sound all)
+
+-- the entries of a closing that can be written are of the dictionary
+closing-in : (dictionary : List Entry) (c : Closing) → IsWritableClosing dictionary c
+    → AreIn dictionary (closing_entries c)
+closing-in dictionary c w = by c.table w.table
+  where
+    by : (o : Option Entry) → IfSome o (IsWritableTable dictionary) → AreIn dictionary (option_to_list o ++ c.end ∷ [])
+    by None table = (w.end.held, tt)
+    by (Some e) table = (table.held, (w.end.held, tt))
+
+-- The entries that the frames of a file use, and those of its closing, agree.
+pub closing-agrees : (file : List ℕ) (order : Order) (items : List Item) (last : Before) (ordered : List Frame)
+    → AreBytes file → IsWellFormed file order items last → AllZip IsInOrder (frames_among order items) ordered
+    → AreConsistent (entries_used (after_frames begun ordered).entries (Some (closing_by last.dictionary)))
+closing-agrees file order items last ordered bytes whole in_order =
+    let dictionary : List Entry = printed_entries last.dictionary in
+    let closing : Closing = closing_by last.dictionary in
+    let used : AreIn dictionary (after_frames begun ordered).entries =
+    (frames-needed dictionary begun ordered (none-needed dictionary)
+    (orders-writable dictionary (frames_among order items) ordered
+    (source_frames file order items last bytes whole.begins) in_order)).held in
+    consistent-in dictionary ((after_frames begun ordered).entries ++ closing_entries closing)
+    (source_entries file order items last bytes whole.begins).dictionary
+    (both (IsIn dictionary) (after_frames begun ordered).entries (closing_entries closing) used
+    (closing-in dictionary closing (source_closing file order items last bytes whole)))
+
+-- ---- how an input is left
+
+-- the items that were put are all of the file
+whole-put : (file : List ℕ) (r : Reader) (items : List Item) → HasEnded file r → Begins file r.order items r.before
+    → IsWellFormed file r.order items r.before
+whole-put file r items ended begins = record { begins = begins; closed = ended.1.closed; ends = ended.1.ends }
+
+-- of a further input: the closing that is held stays
+pub puts-further : (file : List ℕ) (r : Reader) (closing : Option Closing) (stood : List Frame) (old now : Outside)
+    (name : List ℕ) (inputs : ℕ) (layouts : ChannelLayouts) (w : Writer) → HasEnded file r → false ≡ is_none closing
+    → HasPut file r.order r.before closing stood old now name inputs layouts w
+    → PutsAll file closing stood old now name inputs w
+puts-further file r None stood old now name inputs layouts w ended further put = absurd (false≢true further)
+puts-further file r (Some first) stood old now name inputs layouts w ended further put = record {
+  own = closing_by r.before.dictionary;
+  frames = frames_among r.order put.items;
+  ordered = put.ordered;
+  then_stand = put.then_stand;
+  content = record {
+    order = r.order;
+    items = put.items;
+    last = r.before;
+    well_formed = whole-put file r put.items ended put.begins;
+    is = refl;
+  };
+  in_order = put.in_order;
+  passes = put.passes;
+  written = put.written;
+  closing_is = put.closing_is;
+}
+
+-- of the first: its own closing is held then
+pub puts-first : (file : List ℕ) (r : Reader) (closing : Option Closing) (stood : List Frame) (old now : Outside)
+    (name : List ℕ) (inputs : ℕ) (layouts : ChannelLayouts) (w new : Writer) (c : Closing) → AreBytes file
+    → HasEnded file r → true ≡ is_none closing
+    → HasPut file r.order r.before closing stood old now name inputs layouts w
+    → new ≡ record w { closing = Some c } → c ≡ closing_by r.before.dictionary
+    → PutsAll file closing stood old now name inputs new
+puts-first file r (Some first) stood old now name inputs layouts w new c bytes ended none put is closing_is =
+    absurd (true≢false none)
+puts-first file r None stood old now name inputs layouts w new c bytes ended none put is closing_is =
+    subst (PutsAll file None stood old now name inputs)
+    (sym (is ∙ ap (λ (c : Closing). record w { closing = Some c }) closing_is)) (record {
+      own = own;
+      frames = frames_among r.order put.items;
+      ordered = put.ordered;
+      then_stand = put.then_stand;
+      content = record {
+        order = r.order;
+        items = put.items;
+        last = r.before;
+        well_formed = whole;
+        is = refl;
+      };
+      in_order = put.in_order;
+      passes = put.passes;
+      written = record {
+        made = put.written.made;
+        written = put.written.written;
+        error = put.written.error;
+        agree = subst (λ (x : Written). AreConsistent (entries_used x.entries (Some own)))
+            (sym (put.written.written ∙ ap (after_frames begun) stand))
+            (closing-agrees file r.order put.items r.before put.ordered bytes whole put.in_order);
+      };
+      closing_is = refl;
+    })
+  where
+    own : Closing
+    own = closing_by r.before.dictionary
+
+    whole : IsWellFormed file r.order put.items r.before
+    whole = whole-put file r put.items ended put.begins
+
+    stand : put.then_stand ≡ put.ordered
+    stand =
+        passes-stood None stood put.ordered put.then_stand put.passes
+        ∙ ap (λ (fs : List Frame). fs ++ put.ordered) (put.none_stood refl)
+
+-- and where memory failed, no more was written than before
+pub puts-no_more : (file : List ℕ) (order : Order) (before : Before) (closing : Option Closing) (stood : List Frame)
+    (old now : Outside) (name : List ℕ) (inputs : ℕ) (layouts : ChannelLayouts) (w : Writer)
+    → HasPut file order before closing stood old now name inputs layouts w
+    → PutsPart file closing stood old now name inputs w.slot
+puts-no_more file order before closing stood old now name inputs layouts w put = record {
+  ordered = put.ordered;
+  then_stand = put.then_stand;
+  count = length (canonical_head put.then_stand);
+  first = record {
+    order = order;
+    items = put.items;
+    last = before;
+    begins = put.begins;
+    in_order = put.in_order;
+  };
+  passes = put.passes;
+  made = subst (HasMade old now name inputs w.slot)
+      (sym (take_all (length (canonical_head put.then_stand)) (canonical_head put.then_stand) (omega arith)))
+      put.written.made;
+}
+
+-- so the dictionary of an input that has ended cannot be one that closes no file
+pub not-unclosed : (file : List ℕ) (r : Reader) (held : List Entry) → AreBytes file → HasEnded file r
+    → held ≡ r.before.dictionary → is_closed held ≡ false → ⊥
+not-unclosed file r held bytes ended same unclosed =
+    true≢false
+    (sym (well_formed-closed file r.order ended.0 r.before bytes ended.1) ∙ ap is_closed (sym same) ∙ unclosed)
