@@ -10,5 +10,7 @@ mod OneVerdict
 mod Parting
 mod Places
 mod Replies
+mod SpliceWords
+mod Splices
 mod Structures
 mod Walking

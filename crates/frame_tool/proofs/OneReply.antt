@@ -1,5 +1,6 @@
 -- Words over files have one reply that is due.
-use Rattle.std.proofs.Common.{◌≡◌, ℕ, ◌⊎◌, List, Option, Some, None, inl, inr, refl, sym, ap, ◌∙◌}
+use Rattle.std.proofs.Common.{◌≡◌, ℕ, ◌<◌, ◌⊎◌, List, [], ◌∷◌, length, Option, Some, None, inl, inr, refl, sym, ap}
+use Rattle.std.proofs.Common.{◌∙◌, arith}
 use Rattle.frame_outside.specs.Shelf.{Files}
 use Rattle.file_grammar.specs.declared.fault.Fault.{Fault}
 use Rattle.file_grammar.specs.Fault.{IsFirstFault}
@@ -13,10 +14,14 @@ use Rattle.frame_tool.specs.declared.judgement.Finding.{Finding}
 use Rattle.frame_tool.specs.declared.judgement.Finding.TheVariants.{Accepted, Refused}
 use Rattle.frame_tool.specs.declared.judgement.Report.TheVariants.{Summary, Channels}
 use Rattle.frame_tool.specs.Check.{IsFinding}
-use Rattle.frame_tool.specs.Due.{Reply, reply_with, walk_reply, finding_reply, IsFileDue, IsCommandDue}
+use Rattle.frame_tool.specs.Due.{Reply, reply_with, walk_reply, finding_reply, splice_reply, IsFileDue, IsSpliceDue}
+use Rattle.frame_tool.specs.Due.{IsCommandDue}
 use Rattle.frame_tool.specs.Due.{EachRunHasADueReply, NoRunHasTwoDueReplies}
-use Rattle.frame_tool.specs.Words.{Form, WalkFile, CheckFile, ListFile, command_of}
+use Rattle.frame_tool.specs.Words.{Form, WalkFile, CheckFile, ListFile, SpliceFiles, command_of}
+use Rattle.splicer.specs.Due.{HoldBytes}
+use Rattle.splicer.proofs.Dues.{no-two-dues, a-due}
 use Rattle.frame_tool.proofs.OneVerdict.{a_verdict, no_two_verdicts}
+use Rattle.frame_tool.proofs.SpliceWords.{splice_read}
 
 -- of each file something is found
 abbrev EachHas : {A : Type 0} → (List ℕ → A → Type 0) → Type 0
@@ -63,11 +68,27 @@ file_dues is reply_of alone None first second left right = left ∙ sym right
 file_dues is reply_of alone (Some file) first second (a, holds, left) (b, also, right) =
     left ∙ ap reply_of (alone file a b holds also) ∙ sym right
 
-command_due : (files : Files) (command : Option Form) → (reply : Reply) × IsCommandDue files command reply
-command_due files None = (reply_with Usage, refl)
-command_due files (Some (WalkFile file)) = file_due _ walk_reply a_verdict (files file)
-command_due files (Some (CheckFile file)) = file_due _ (finding_reply Summary) a_finding (files file)
-command_due files (Some (ListFile file)) = file_due _ (finding_reply Channels) a_finding (files file)
+-- a splice of one file or more has a reply that is due, and no two
+splice_due : (files : Files) (to : List ℕ) (from : List (List ℕ)) → HoldBytes files → 0 < length from
+    → (reply : Reply) × IsSpliceDue to from files reply
+splice_due files to [] bytes some = absurd (omega (arith, some))
+splice_due files to (name ∷ names) bytes some =
+    let due = a-due files name names None [] 0 in
+    (splice_reply to due.0, (due.0, record { bytes = bytes; from = due.1 }, refl))
+
+splice_dues : (files : Files) (to : List ℕ) (from : List (List ℕ)) (first second : Reply)
+    → IsSpliceDue to from files first → IsSpliceDue to from files second → first ≡ second
+splice_dues files to from first second (a, is, left) (b, also, right) =
+    left ∙ ap (splice_reply to) (no-two-dues files from None [] 0 a b is.from also.from) ∙ sym right
+
+command_due : (files : Files) (words : List (List ℕ)) (command : Option Form) → HoldBytes files
+    → command_of words ≡ command → (reply : Reply) × IsCommandDue files command reply
+command_due files words None bytes is = (reply_with Usage, refl)
+command_due files words (Some (WalkFile file)) bytes is = file_due _ walk_reply a_verdict (files file)
+command_due files words (Some (CheckFile file)) bytes is = file_due _ (finding_reply Summary) a_finding (files file)
+command_due files words (Some (ListFile file)) bytes is = file_due _ (finding_reply Channels) a_finding (files file)
+command_due files words (Some (SpliceFiles to from)) bytes is =
+    splice_due files to from bytes (splice_read words to from is).some
 
 command_dues : (files : Files) (command : Option Form) (first second : Reply) → IsCommandDue files command first
     → IsCommandDue files command second → first ≡ second
@@ -78,9 +99,11 @@ command_dues files (Some (CheckFile file)) first second left right =
     file_dues _ (finding_reply Summary) no_two_findings (files file) first second left right
 command_dues files (Some (ListFile file)) first second left right =
     file_dues _ (finding_reply Channels) no_two_findings (files file) first second left right
+command_dues files (Some (SpliceFiles to from)) first second left right =
+    splice_dues files to from first second left right
 
 pub a_due_reply : EachRunHasADueReply
-a_due_reply files words = command_due files (command_of words)
+a_due_reply files words bytes = command_due files words (command_of words) bytes refl
 
 pub no_two_due_replies : NoRunHasTwoDueReplies
 no_two_due_replies files words first second left right = command_dues files (command_of words) first second left right

@@ -1,24 +1,55 @@
--- The reply that is due to the words is that of the command that they are.
-use Rattle.std.proofs.Common.{◌≡◌, Option, Some, sym, ap, subst, ◌∙◌}
-use Rattle.frame_outside.specs.Shelf.{Files}
+-- Words are run as the command that they are.
+use Rattle.std.proofs.Common.{◌≡◌, ◌+◌, ◌≤◌, length, Option, Some, None, sym, ap, ◌∙◌, arith}
+use Rattle.std.proofs.lemmas.List.{length-map}
+use Rattle.std.specs.String.{string_bytes}
 use Rattle.frame_tool.specs.declared.command.Command.{Command}
-use Rattle.frame_tool.specs.Words.{Form, form_of}
-use Rattle.frame_tool.specs.Due.{Reply, IsCommandDue}
+use Rattle.frame_tool.specs.Words.{Form, WalkFile, CheckFile, ListFile, SpliceFiles, form_of, command_of, texts}
+use Rattle.frame_tool.proofs.Replies.{replies_usage, runs_by}
+use Rattle.frame_tool.proofs.SpliceWords.{some_word, splice_read, all_others}
 use Rattle.frame_tool.proofs.dispatch.run.Goals as goal
 
-due_to : (files : Files) (words : Option Form) (command same : Command) (reply : Reply)
-    → Some (form_of command) ≡ words → command ≡ same → IsCommandDue files words reply
-    → IsCommandDue files (Some (form_of same)) reply
-due_to files words command same reply read is due =
-    let P : Option Form → Type 0 = λ form. IsCommandDue files form reply in
-    subst P (sym read ∙ ap (λ (c : Command). Some (form_of c)) is) due
+-- the words are a command that is known better
+read_as : (words : Option Form) (command same : Command) → Some (form_of command) ≡ words → command ≡ same
+    → Some (form_of same) ≡ words
+read_as words command same read is = sym (ap (λ (c : Command). Some (form_of c)) is) ∙ read
 
-pub returns-in-Some-Check-clause-answer : goal.returns-in-Some-Check-clause-answer
-returns-in-Some-Check-clause-answer g c = λ files told reply due.
-    c.run_report.ensures.answer files told reply
-    (due_to files _ _ _ reply c.in-Some-Check.ensures c.in-Some-Check.field-0-is due)
+pub returns-in-None : goal.returns-in-None
+returns-in-None g c =
+    runs_by (texts c.args.words.now) None 0 _ _ _ _ _ c.in-None.ensures (omega arith)
+    (replies_usage 0 _ _ _ _ c.answer_line.ensures.answer c.answer_line.ensures.text c.answer_line.ensures.device)
 
-pub returns-in-Some-List-clause-answer : goal.returns-in-Some-List-clause-answer
-returns-in-Some-List-clause-answer g c = λ files told reply due.
-    c.run_report-in-Some-List.ensures.answer files told reply
-    (due_to files _ _ _ reply c.in-Some-List.ensures c.in-Some-List.field-0-is due)
+pub returns-in-Some-Walk : goal.returns-in-Some-Walk
+returns-in-Some-Walk g c =
+    let words = texts c.args.words.now in
+    let read = read_as (command_of words) _ _ c.in-Some-Walk.ensures c.in-Some-Walk.field-0-is in
+    runs_by words (Some (WalkFile c.in-Some-Walk.file.now)) 1 _ _ _ _ _ read (some_word words _ (sym read))
+    c.run_walk.ensures
+
+pub returns-in-Some-Check : goal.returns-in-Some-Check
+returns-in-Some-Check g c =
+    let words = texts c.args.words.now in
+    let read = read_as (command_of words) _ _ c.in-Some-Check.ensures c.in-Some-Check.field-0-is in
+    runs_by words (Some (CheckFile c.in-Some-Check.file.now)) 1 _ _ _ _ _ read (some_word words _ (sym read))
+    c.run_report.ensures
+
+pub returns-in-Some-List : goal.returns-in-Some-List
+returns-in-Some-List g c =
+    let words = texts c.args.words.now in
+    let read = read_as (command_of words) _ _ c.in-Some-List.ensures c.in-Some-List.field-0-is in
+    runs_by words (Some (ListFile c.in-Some-List.file.now)) 1 _ _ _ _ _ read (some_word words _ (sym read))
+    c.run_report-in-Some-List.ensures
+
+pub run_splice-requires-clause-apart : goal.run_splice-requires-clause-apart
+run_splice-requires-clause-apart g c =
+    let words = texts c.args.words.now in
+    let read = read_as (command_of words) _ _ c.in-Some-Splice.ensures c.in-Some-Splice.field-0-is in
+    all_others c.in-Some-Splice.to.now c.in-Some-Splice.from.now (splice_read words _ _ (sym read)).others
+
+pub returns-in-Some-Splice : goal.returns-in-Some-Splice
+returns-in-Some-Splice g c =
+    let words = texts c.args.words.now in
+    let from = c.in-Some-Splice.from.now in
+    let read = read_as (command_of words) _ _ c.in-Some-Splice.ensures c.in-Some-Splice.field-0-is in
+    let more = (splice_read words _ _ (sym read)).enough in
+    runs_by words (Some (SpliceFiles c.in-Some-Splice.to.now (texts from))) (length from + 1) _ _ _ _ _ read
+    (omega (arith, more, length-map from string_bytes)) c.run_splice.ensures

@@ -1,0 +1,201 @@
+-- What a run of a splice does, by what the splice of the files did and what was printed.
+use Rattle.std.proofs.Common.{◌≡◌, ℕ, ◌+◌, ◌<◌, Bool, true, false, List, [], length, take, Option, Some, Result, Ok, Err}
+use Rattle.std.proofs.Common.{IfErr, is_ok, inl, inr, ◌⊎◌, refl, sym, ap, ◌∙◌, subst, arith}
+use Rattle.std.proofs.lemmas.Bool.{false≢true}
+use Rattle.std.proofs.lemmas.List.{take_all}
+use Rattle.std.proofs.Math.Seq.{take-nil}
+use Rattle.frame_outside.specs.Counts.{Rose}
+use Rattle.frame_outside.specs.Shelf.{Outside, Files, Told, holding}
+use Rattle.frame_outside.specs.Sink.{Output as Printed, Appends}
+use Rattle.canonical_writer.specs.declared.writer.Summary.{Summary}
+use Rattle.splicer.specs.declared.errors.SpliceError.{SpliceError}
+use Rattle.splicer.specs.declared.errors.SpliceError.TheVariants as splice
+use Rattle.splicer.specs.Due.{Due, Writes, Stops, IsDue, answer_of, is_whole, output_of}
+use Rattle.splicer.specs.Due as SpliceDue
+use Rattle.splicer.specs.Errors.{IsOfInputs}
+use Rattle.splicer.specs.Left.{IsPart, LeavesFile}
+use Rattle.splicer.specs.Made.{WritesOneFile}
+use Rattle.frame_tool.specs.declared.outcome.Outcome.{Outcome}
+use Rattle.frame_tool.specs.declared.outcome.Outcome.TheVariants.{Done, Device, NoMemory}
+use Rattle.frame_tool.specs.Words.{SpliceFiles}
+use Rattle.frame_tool.specs.Outcome.{line_of, spliced}
+use Rattle.frame_tool.specs.Due.{Reply, IsSpliceDue, IsAnswer, IsAmong, Prints, AppendsFront, splice_reply}
+use Rattle.frame_tool.specs.Run.{Leaves, Replies, has_failed}
+use Rattle.frame_tool.proofs.Replies.{among_due, prints_faults}
+
+-- what a splice of so many files did and answered
+pub record HasSpliced (old new : Outside) (to : List ℕ) (from : List (List ℕ)) (count : ℕ)
+    (result : Result Summary SpliceError) : Type 0 where
+  pub counted : count ≡ length from
+  pub answer : Told old.files (λ files. (due : Due) → IsDue files from due → SpliceDue.IsAnswer result due)
+  pub leaves : Told old.files
+      (λ files. (due : Due) → IsDue files from due → SpliceDue.Leaves files new.files to result due)
+  pub misses : Told old.files
+      (λ files. old.misses < new.misses → (due : Due) → IsDue files from due → answer_of due ≡ Err splice.Device)
+  pub inputs : IfErr result (IsOfInputs count)
+  pub shelf : WritesOneFile old new to count
+
+-- ---- the answer
+
+-- what was answered where an answer was due that stands for another is an answer for that other
+answer_on : (outcome said due : Outcome) → IsAnswer outcome said → IsAnswer said due → IsAnswer outcome due
+answer_on outcome said due (inl same) (inl also) = inl (same ∙ also)
+answer_on outcome said due (inl same) (inr (inl device)) = inr (inl (same ∙ device))
+answer_on outcome said due (inl same) (inr (inr full)) = inr (inr (same ∙ full))
+answer_on outcome said due (inr failed) also = inr failed
+
+spliced_answer : (result : Result Summary SpliceError) (due : Due) → SpliceDue.IsAnswer result due
+    → IsAnswer (spliced result) (spliced (answer_of due))
+spliced_answer result due (inl same) = inl (ap spliced same)
+spliced_answer result due (inr (inl device)) = inr (inl (ap spliced device))
+spliced_answer result due (inr (inr full)) = inr (inr (ap spliced full))
+
+spliced_among : (result : Result Summary SpliceError) (to : List ℕ) (from : List (List ℕ))
+    → IfErr result (IsOfInputs (length from)) → IsAmong (spliced result) (Some (SpliceFiles to from))
+spliced_among (Ok summary) to from inputs = tt
+spliced_among (Err (splice.Fault file fault)) to from inputs = inputs
+spliced_among (Err (splice.Clash file class)) to from inputs = inputs
+spliced_among (Err splice.FramesLimit) to from inputs = tt
+spliced_among (Err splice.OutputLimit) to from inputs = tt
+spliced_among (Err splice.Device) to from inputs = tt
+spliced_among (Err splice.NoMemory) to from inputs = tt
+
+-- ---- what is printed
+
+-- a front of no text is a front of each
+front_of_none : (text : List ℕ) (before after : Printed) → AppendsFront before after [] → AppendsFront before after text
+front_of_none text before after front =
+    record { count = 0; appends = subst (Appends before after) (take-nil front.count) front.appends }
+
+-- so where the outside or memory failed, it is enough that a front of no text was printed
+prints_any : (outcome : Outcome) (text : List ℕ) (before after : Printed) → (outcome ≡ Device) ⊎ (outcome ≡ NoMemory)
+    → Prints outcome [] before after → Prints outcome text before after
+prints_any outcome text before after (inl device) =
+    let P : Outcome → Type 0 = λ o. Prints o [] before after → Prints o text before after in
+    subst P (sym device) (front_of_none text before after)
+prints_any outcome text before after (inr full) =
+    let P : Outcome → Type 0 = λ o. Prints o [] before after → Prints o text before after in
+    subst P (sym full) (front_of_none text before after)
+
+-- an answer that an answer stands for is of those of the outside and memory, where that one is
+failed_on : (outcome said : Outcome) → IsAnswer outcome said → (said ≡ Device) ⊎ (said ≡ NoMemory)
+    → (outcome ≡ Device) ⊎ (outcome ≡ NoMemory)
+failed_on outcome said (inl same) (inl device) = inl (same ∙ device)
+failed_on outcome said (inl same) (inr full) = inr (same ∙ full)
+failed_on outcome said (inr failed) also = failed
+
+no_line : (outcome : Outcome) → (outcome ≡ Device) ⊎ (outcome ≡ NoMemory) → line_of outcome ≡ []
+no_line outcome (inl device) = ap line_of device
+no_line outcome (inr full) = ap line_of full
+
+-- the line of an answer that stands for another was printed as that of the other
+prints_on : (outcome said due : Outcome) (before after : Printed) → IsAnswer outcome said → IsAnswer said due
+    → Prints outcome (line_of said) before after → Prints outcome (line_of due) before after
+prints_on outcome said due before after answers (inl same) prints =
+    let P : Outcome → Type 0 = λ o. Prints outcome (line_of o) before after in
+    subst P same prints
+prints_on outcome said due before after answers (inr failed) prints =
+    let P : List ℕ → Type 0 = λ line. Prints outcome line before after in
+    prints_any outcome (line_of due) before after (failed_on outcome said answers failed)
+    (subst P (no_line said failed) prints)
+
+-- ---- what is written
+
+failed_alike : (result : Result Summary SpliceError) → has_failed (spliced result) ≡ SpliceDue.has_failed result
+failed_alike (Ok summary) = refl
+failed_alike (Err (splice.Fault file fault)) = refl
+failed_alike (Err (splice.Clash file class)) = refl
+failed_alike (Err splice.FramesLimit) = refl
+failed_alike (Err splice.OutputLimit) = refl
+failed_alike (Err splice.Device) = refl
+failed_alike (Err splice.NoMemory) = refl
+
+failed_outcome : (outcome : Outcome) → (outcome ≡ Device) ⊎ (outcome ≡ NoMemory) → has_failed outcome ≡ true
+failed_outcome outcome (inl device) = ap has_failed device
+failed_outcome outcome (inr full) = ap has_failed full
+
+-- where a splice was stopped, no whole file is due
+stopped_due : (result : Result Summary SpliceError) (due : Due) → SpliceDue.has_failed result ≡ false
+    → (is_ok result ≡ true → ⊥) → SpliceDue.IsAnswer result due → is_whole due ≡ false
+stopped_due result (Writes closing frames) unfailed stopped (inl same) = absurd (stopped (ap is_ok same))
+stopped_due result (Stops error frames) unfailed stopped (inl same) = refl
+stopped_due result due unfailed stopped (inr (inl device)) =
+    absurd (false≢true (sym unfailed ∙ ap SpliceDue.has_failed device))
+stopped_due result due unfailed stopped (inr (inr full)) =
+    absurd (false≢true (sym unfailed ∙ ap SpliceDue.has_failed full))
+
+-- a file that holds all bytes of a beginning holds a part
+leaves_part : (failed : Bool) (files : Files) (new : Option Files) (to : List ℕ) (whole : Bool) (bytes : List ℕ)
+    → (failed ≡ false → whole ≡ false) → LeavesFile failed files new to whole bytes
+    → LeavesFile true files new to whole bytes
+leaves_part true files new to whole bytes begun leaves = leaves
+leaves_part false files new to whole bytes begun leaves =
+    let P : Bool → Type 0 = λ w. IsPart w (length bytes) bytes in
+    let all : take (length bytes) bytes ≡ bytes = take_all (length bytes) bytes (omega arith) in
+    inr (record {
+      count = length bytes;
+      part = subst P (sym (begun refl)) tt;
+      files_are = leaves ∙ ap (λ b. Some (holding to b files)) (sym all);
+    })
+
+leaves_on : (result : Result Summary SpliceError) (due : Due) (outcome : Outcome) (files : Files) (new : Option Files)
+    (to : List ℕ) → IsAnswer outcome (spliced result) → SpliceDue.IsAnswer result due
+    → (is_ok result ≡ true → outcome ≡ Done) → SpliceDue.Leaves files new to result due
+    → LeavesFile (has_failed outcome) files new to (is_whole due) (output_of due)
+leaves_on result due outcome files new to (inl same) is done leaves =
+    let P : Bool → Type 0 = λ failed. LeavesFile failed files new to (is_whole due) (output_of due) in
+    subst P (sym (ap has_failed same ∙ failed_alike result)) leaves
+leaves_on result due outcome files new to (inr failed) is done leaves =
+    let P : Bool → Type 0 = λ failed. LeavesFile failed files new to (is_whole due) (output_of due) in
+    let fails = failed_outcome outcome failed in
+    let stopped : is_ok result ≡ true → ⊥ = λ ok. false≢true (sym (ap has_failed (done ok)) ∙ fails) in
+    subst P (sym fails) (leaves_part (SpliceDue.has_failed result) files new to (is_whole due) (output_of due)
+    (λ unfailed. stopped_due result due unfailed stopped is) leaves)
+
+-- ---- the run
+
+pub not_ok : (result : Result Summary SpliceError) (error : SpliceError) → result ≡ Err error → is_ok result ≡ true → ⊥
+not_ok result error is ok = false≢true (sym (ap is_ok is) ∙ ok)
+
+-- the splice gave what is to be said, and the line of that was printed
+pub replies_spliced : (old new : Outside) (before after : Printed) (to : List ℕ) (from : List (List ℕ)) (count : ℕ)
+    (result : Result Summary SpliceError) (said outcome : Outcome) → HasSpliced old new to from count result
+    → spliced result ≡ said → IsAnswer outcome said → Prints outcome (line_of said) before after
+    → (is_ok result ≡ true → outcome ≡ Done)
+    → (outcome ≡ Device → Rose old.faults new.faults ⊎ Rose before.faults after.faults)
+    → Replies (IsSpliceDue to from) (Some (SpliceFiles to from)) (count + 1) old new before after outcome
+replies_spliced old new before after to from count result said outcome has gave answers prints done device = record {
+  answer = λ files told reply (due, is, same).
+      let P : Reply → Type 0 = λ r. IsAnswer outcome r.outcome in
+      subst P (sym same) (answer_on outcome said (spliced (answer_of due)) answers (stands files told due is));
+  text = λ files told reply (due, is, same).
+      let P : Reply → Type 0 = λ r. Prints outcome r.text before after in
+      subst P (sym same)
+      (prints_on outcome said (spliced (answer_of due)) before after answers (stands files told due is) prints);
+  output = λ files told reply (due, is, same).
+      let P : Reply → Type 0 = λ r. Leaves files new.files outcome r.output in
+      subst P (sym same) (leaves_on result due outcome files new.files to answers_result (has.answer files told due is)
+      done (has.leaves files told due is));
+  misses = λ files told rose reply (due, is, same).
+      ap (λ (r : Reply). r.outcome) same ∙ ap spliced (has.misses files told rose due is);
+  among = among_due outcome (spliced result) (Some (SpliceFiles to from)) answers_result
+      (spliced_among result to from (subst (λ n. IfErr result (IsOfInputs n)) has.counted has.inputs));
+  usage = λ none. absurd cc;
+  device = device;
+  faults = has.shelf.faults;
+  missed = has.shelf.misses;
+  sink = prints_faults outcome (line_of said) before after prints;
+  keeps = (has.shelf.slots, has.shelf.files);
+  given = omega (arith, has.shelf.given);
+}
+  where
+    answers_result : IsAnswer outcome (spliced result)
+    answers_result =
+        let P : Outcome → Type 0 = λ o. IsAnswer outcome o in
+        subst P (sym gave) answers
+
+    stands : (files : Files) → old.files ≡ Some files → (due : Due) → IsDue files from due
+        → IsAnswer said (spliced (answer_of due))
+    stands files told due is =
+        let P : Outcome → Type 0 = λ o. IsAnswer o (spliced (answer_of due)) in
+        subst P gave (spliced_answer result due (has.answer files told due is))
