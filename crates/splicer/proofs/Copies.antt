@@ -106,8 +106,7 @@ copies-canonical files name closing frames due =
 pub copies-tell : CopiesTellContents
 copies-tell files others name other closing end frames ends due also =
     let one = has-copy files name closing frames due in
-    let two = has-copy others other end ends also in
-    (
+    let two = has-copy others other end ends also in (
       one.copy.content,
       two.copy.content,
       copy-of files name (canonical_file closing frames) one,

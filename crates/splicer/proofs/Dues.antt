@@ -1,5 +1,5 @@
 -- What is due of a splice, by what was written of an input.
-use Rattle.std.proofs.Common.{◌≡◌, ℕ, ◌+◌, List, [], ◌∷◌, ◌++◌, Option, Some, None, Result, Ok, Err, refl, sym, ap}
+use Rattle.std.proofs.Common.{◌≡◌, ◌⊎◌, inl, inr, ℕ, ◌+◌, List, [], ◌∷◌, ◌++◌, Option, Some, None, Result, Ok, Err, refl, sym, ap}
 use Rattle.std.proofs.Common.{subst, ◌∙◌}
 use Rattle.std.proofs.lemmas.List.{append_assoc, append-nil}
 use Rattle.std.specs.List.{AllZip}
@@ -125,12 +125,12 @@ due-longer files (name ∷ names) closing stood number due is =
 
 -- and so is what passes of an input
 pub due-begun : (files : Files) (names : List (List ℕ)) (file : List ℕ) (closing : Option Closing)
-    (stood ordered then_stand : List Frame) (number : ℕ) (due : Due) → AreFirst file ordered
+    (stood ordered then_stand : List Frame) (number : ℕ) (due : Due) → (ordered ≡ []) ⊎ AreFirst file ordered
     → course closing stood ordered ≡ Passes then_stand
     → IsDueOf file closing stood number (λ closing stood due. IsDueFrom files closing stood (number + 1) names due) due
     → (more : List Frame) × (frames_of due ≡ then_stand ++ more)
 due-begun files names file closing stood ordered then_stand number due first passes is =
-    let longer = first-given file is.frames is.ordered ordered is.ending is.gives is.in_order first in
+    let longer = by first in
     let P : Course → Type 0 = λ c. IsDueAfter c is.ending closing number (next_of files names number) due in
     longer_after (course closing then_stand longer.0) is.ending closing then_stand number (next_of files names number)
     due
@@ -140,6 +140,10 @@ due-begun files names file closing stood ordered then_stand number due first pas
     (ap (course closing stood) longer.1
     ∙ course-after closing stood ordered longer.0 then_stand passes)
     is.is)
+  where
+    by : (ordered ≡ []) ⊎ AreFirst file ordered → (rest : List Frame) × (is.ordered ≡ ordered ++ rest)
+    by (inl none) = (is.ordered, ap (λ fs. fs ++ is.ordered) (sym none))
+    by (inr are) = first-given file is.frames is.ordered ordered is.ending is.gives is.in_order are
 
 -- ---- one due, and some
 
