@@ -1,6 +1,6 @@
 -- What an input leaves at its end: the closing of the first is held, and its entries agree with those that were used.
 use Rattle.std.proofs.Common.{◌≡◌, ℕ, Bool, true, false, cond, find, Option, Some, None, List, [], ◌∷◌, ◌++◌, length}
-use Rattle.std.proofs.Common.{refl, sym, ap, ◌∙◌, subst, arith, true≢false, is_none, IfSome, codes}
+use Rattle.std.proofs.Common.{inr, refl, sym, ap, ◌∙◌, subst, arith, true≢false, is_none, IfSome, codes}
 use Rattle.std.proofs.lemmas.Bool.{false≢true}
 use Rattle.std.proofs.lemmas.List.{take_all}
 use Rattle.std.proofs.lemmas.List.Elements.{All-from_recursion}
@@ -218,13 +218,13 @@ puts-no_more file order before closing stood old now name inputs layouts w put =
   ordered = put.ordered;
   then_stand = put.then_stand;
   count = length (canonical_head put.then_stand);
-  first = record {
+  first = inr (record {
     order = order;
     items = put.items;
     last = before;
     begins = put.begins;
     in_order = put.in_order;
-  };
+  });
   passes = put.passes;
   made = subst (HasMade old now name inputs w.slot)
       (sym (take_all (length (canonical_head put.then_stand)) (canonical_head put.then_stand) (omega arith)))

@@ -4,5 +4,11 @@ pub mod Dues
 pub mod Making
 pub mod ItemsCome
 pub mod NamedEntries
+pub mod FramesMore
+pub mod OnlyWritten
+pub mod Unread
+pub mod PutItems
+pub mod PutsOn
+pub mod FirstPut
 pub mod Closed
 pub mod Copies

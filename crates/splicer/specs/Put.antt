@@ -1,8 +1,8 @@
 -- What is written of an input, frame after frame.
-use Rattle.std.specs.Prelude.{◌≡◌, ℕ, Bool, List, [], take, Option, Some, None, is_none, Result, Ok, Err}
+use Rattle.std.specs.Prelude.{◌≡◌, ℕ, ◌≤◌, ◌⊎◌, Bool, List, [], take, Option, Some, None, is_none, Result, Ok, Err}
 use Rattle.std.specs.List.{AllZip}
 use Rattle.scalar_types.specs.declared.Order.{Order}
-use Rattle.frame_outside.specs.Shelf.{Outside}
+use Rattle.frame_outside.specs.Shelf.{Outside, IsTarget}
 use Rattle.dictionary.specs.Dictionary.{IsDictionary}
 use Rattle.file_grammar.specs.declared.fault.Fault.{Fault}
 use Rattle.file_grammar.specs.Item.{Item, Before}
@@ -20,6 +20,7 @@ use Rattle.canonical_writer.specs.declared.errors.WriteError.{WriteError}
 use Rattle.canonical_writer.specs.declared.errors.WriteError.TheVariants as write
 use Rattle.canonical_writer.specs.Parts.{AreConsistent, AreMet}
 use Rattle.canonical_writer.specs.Writer.{Writer}
+use Rattle.item_reader.specs.Reader.{Reader, Reads, file_of}
 use Rattle.splicer.specs.declared.errors.InputError.{InputError}
 use Rattle.splicer.specs.declared.errors.InputError.TheVariants as input
 use Rattle.splicer.specs.Due.{Course, Passes, Refuses, course, frames_among, Gives, Breaks, held_then}
@@ -75,13 +76,13 @@ pub record PutsUntilRefusal (file : List ℕ) (closing : Option Closing) (stood 
   pub refuses : course closing stood ordered ≡ Refuses error then_stand
   pub made : HasMade old new name inputs slot (canonical_head then_stand)
 
--- the shelf or memory failed, and some bytes of its frames are written
+-- the shelf or memory failed, and some bytes of its frames are written; there are none where its header was not read
 pub record PutsPart (file : List ℕ) (closing : Option Closing) (stood : List Frame) (old new : Outside) (name : List ℕ)
     (inputs slot : ℕ) : Type 0 where
   pub ordered : List Frame
   pub then_stand : List Frame
   pub count : ℕ
-  pub first : AreFirst file ordered
+  pub first : (ordered ≡ []) ⊎ AreFirst file ordered
   pub passes : course closing stood ordered ≡ Passes then_stand
   pub made : HasMade old new name inputs slot (take count (canonical_head then_stand))
 
@@ -132,3 +133,10 @@ PutsItem file order before closing stood old new name inputs layouts w (Ok x) =
     HasPut file order before closing stood old new name inputs layouts w
 PutsItem file order before closing stood old new name inputs layouts w (Err error) =
     Puts file closing stood old new name inputs w (Err (input.Write error))
+
+-- Of the slots only what was written changed: each reader reads on.
+pub record OnlyWrites (old new : Outside) : Type 0 where
+  pub reads : (r : Reader) → Reads old r → Reads new r
+  pub targets : (slot : ℕ) → IsTarget old.slots slot → IsTarget new.slots slot
+  pub files : (slot : ℕ) → file_of new slot ≡ file_of old slot
+  pub faults : old.faults ≤ new.faults

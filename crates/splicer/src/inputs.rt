@@ -1,10 +1,9 @@
 //! One input, written frame after frame.
 
 ghost use Rattle.std.specs.Prelude.{◌≡◌, ◌⊎◌, ◌≤◌, ℕ, List, length, Option, None, Some, Err, OnOk, IsSome, IsTrue};
-ghost use Rattle.std.specs.Prelude.{is_none};
+ghost use Rattle.std.specs.Prelude.{is_none, false};
 ghost use Rattle.frame_outside.specs.Counts.{Rose};
 ghost use Rattle.frame_outside.specs.Shelf.{Outside, Told, IsSource, IsTarget, reading_at};
-ghost use Rattle.file_grammar.specs.Item.{Before};
 ghost use Rattle.item_reader.specs.Reader.{Reader, Reads, Goes, HasEnded, file_of};
 ghost use Rattle.contents_table.specs.Layouts.{layouts_of};
 ghost use Rattle.contents_table.specs.declared.layouts.ChannelLayouts.{ChannelLayouts};
@@ -12,7 +11,7 @@ ghost use Rattle.frame_content.specs.Frames.{Frame};
 ghost use Rattle.canonical_file.specs.declared.closing.Closing.{Closing};
 ghost use Rattle.canonical_file.specs.Ranges.{AreBytes};
 ghost use Rattle.splicer.specs.Made.{IsMade};
-ghost use Rattle.splicer.specs.Put.{HasPut, Comes, Puts, PutsItem};
+ghost use Rattle.splicer.specs.Put.{HasPut, Comes, Puts, PutsItem, OnlyWrites};
 
 use crate::closings::closing_of;
 use crate::errors::InputError;
@@ -44,6 +43,7 @@ pub fn put_input<S: Shelf>(
         → IsMade old (S.outside shelf.old) name inputs writer.old.slot
         → IsMade old (S.outside shelf.new) name inputs writer.new.slot }
     ensures slot { writer.new.slot ≡ writer.old.slot }
+    ensures target { OnOk result (IsTarget (S.outside shelf.new).slots writer.new.slot) }
     ensures no_error { OnOk result (writer.new.error ≡ None) }
     ensures holds { OnOk result (IsTrue is_first ⊎ IsSome writer.old.closing → IsSome writer.new.closing) }
     ensures device { result ≡ Err (InputError.Write WriteError.Device)
@@ -76,6 +76,7 @@ fn put_items<S: Shelf>(
         → IsMade old (S.outside shelf.old) name inputs writer.old.slot
         → IsMade old (S.outside shelf.new) name inputs writer.new.slot }
     ensures slot { writer.new.slot ≡ writer.old.slot }
+    ensures target { OnOk result (IsTarget (S.outside shelf.new).slots writer.new.slot) }
     ensures no_error { OnOk result (writer.new.error ≡ None) }
     ensures holds { OnOk result (IsTrue is_first ⊎ IsSome writer.old.closing → IsSome writer.new.closing) }
     ensures device { result ≡ Err (InputError.Write WriteError.Device)
@@ -111,6 +112,7 @@ fn put_item<S: Shelf>(
     ensures made { (old : Outside) (name : List ℕ) (inputs : ℕ)
         → IsMade old (S.outside shelf.old) name inputs writer.old.slot
         → IsMade old (S.outside shelf.new) name inputs writer.new.slot }
+    ensures only { OnlyWrites (S.outside shelf.old) (S.outside shelf.new) }
     ensures kept { (writer.new.slot ≡ writer.old.slot) × (writer.new.closing ≡ writer.old.closing) }
     ensures no_error { OnOk result (writer.new.error ≡ None) }
     ensures device { result ≡ Err WriteError.Device
@@ -142,7 +144,7 @@ fn end_input(
     at: u64,
 ) -> Result<(), InputError>
     requires error { writer.old.error ≡ None }
-    ensures ended { (file : List ℕ) (before : Before) (closing : Option Closing) (stood : List Frame)
+    ensures ended { (file : List ℕ) (closing : Option Closing) (stood : List Frame)
         (old now : Outside) (name : List ℕ) (inputs : ℕ) (layouts : ChannelLayouts) → AreBytes file
         → HasEnded file reader.now → is_first ≡ is_none closing
         → HasPut file reader.now.order reader.now.before closing stood old now name inputs layouts writer.old

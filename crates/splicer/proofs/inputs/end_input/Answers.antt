@@ -10,13 +10,13 @@ use Rattle.splicer.proofs.inputs.end_input.Goals as goal
 
 pub returns-then-not-is_first-clause-ended : goal.returns-then-not-is_first-clause-ended
 returns-then-not-is_first-clause-ended c =
-    λ file before closing stood old now name inputs layouts bytes ended first put.
+    λ file closing stood old now name inputs layouts bytes ended first put.
     puts-further file c.args.reader.now closing stood old now name inputs layouts c.args.writer.now ended
     (sym c.if-not-is_first.true ∙ first) put
 
 pub returns-in_err-closing-clause-ended : goal.returns-in_err-closing-clause-ended
 returns-in_err-closing-clause-ended c =
-    λ file before closing stood old now name inputs layouts bytes ended first put.
+    λ file closing stood old now name inputs layouts bytes ended first put.
     let p = err_from_is_err_and c.from_residual.result c.from_residual.ensures.1 in
     rw (p.1, p.2)
     (puts-no_more file c.args.reader.now.order c.args.reader.now.before closing stood old now name inputs layouts
@@ -24,7 +24,7 @@ returns-in_err-closing-clause-ended c =
 
 pub returns-in_err-hold_closing-in-Some-clause-ended : goal.returns-in_err-hold_closing-in-Some-clause-ended
 returns-in_err-hold_closing-in-Some-clause-ended c =
-    λ file before closing stood old now name inputs layouts bytes ended first put.
+    λ file closing stood old now name inputs layouts bytes ended first put.
     let p = err_from_is_err_and c.from_residual-in_err-hold_closing-in-Some.result
     c.from_residual-in_err-hold_closing-in-Some.ensures.1 in
     rw (p.1, p.2)
@@ -35,7 +35,7 @@ returns-in_err-hold_closing-in-Some-clause-ended c =
 
 pub returns-in_ok-hold_closing-in-Some-clause-ended : goal.returns-in_ok-hold_closing-in-Some-clause-ended
 returns-in_ok-hold_closing-in-Some-clause-ended c =
-    λ file before closing stood old now name inputs layouts bytes ended first put.
+    λ file closing stood old now name inputs layouts bytes ended first put.
     puts-first file c.args.reader.now closing stood old now name inputs layouts c.args.writer.now
     c.hold_closing.new.self (printed_closing c.in-Some.closing) bytes ended (sym c.if-not-is_first.false ∙ first) put
     c.in_ok-hold_closing-in-Some.ensures.ok
@@ -45,6 +45,6 @@ returns-in_ok-hold_closing-in-Some-clause-ended c =
 
 pub returns-in-None-clause-ended : goal.returns-in-None-clause-ended
 returns-in-None-clause-ended c =
-    λ file before closing stood old now name inputs layouts bytes ended first put.
+    λ file closing stood old now name inputs layouts bytes ended first put.
     absurd (not-unclosed file c.args.reader.now c.dictionary.result.now bytes ended c.dictionary.ensures
     (c.closing_of.ensures.none (c.in_ok-closing.was ∙ ap Ok c.in-None.is)))
