@@ -6,3 +6,5 @@ pub mod ItemsCome
 pub mod NamedEntries
 pub mod Closed
 pub mod Copies
+pub mod OwnFrames
+pub mod OwnCopies
