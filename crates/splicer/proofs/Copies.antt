@@ -1,5 +1,5 @@
 -- What a copy writes is the canonical file of its source's content.
-use Rattle.std.proofs.Common.{◌≡◌, ◌≤◌, ◌+◌, ℕ, nat_lt, true, false, Bool, if◌then◌else◌, length-append, List, [], ◌∷◌, length, Option, Some, None, Result, Ok, Err, refl, sym, ap, subst, ◌∙◌}
+use Rattle.std.proofs.Common.{◌≡◌, ◌≤◌, ◌+◌, ℕ, nat_lt, true, false, Bool, if◌then◌else◌, length-append, List, [], ◌∷◌, length, Option, Some, None, Ok, Err, refl, sym, ap, subst, ◌∙◌}
 use Rattle.std.specs.List.{AllZip}
 use Rattle.frame_outside.specs.Shelf.{Files}
 use Rattle.file_grammar.specs.Structure.{file_limit}
@@ -10,12 +10,10 @@ use Rattle.canonical_file.specs.Written.{begun, after_frames, canonical_head, cl
 use Rattle.canonical_file.specs.Contents.{Content, IsCanonical}
 use Rattle.canonical_file.proofs.Sizes.{head-size}
 use Rattle.canonical_laws.specs.Content.{HasContent}
-use Rattle.canonical_writer.specs.declared.writer.Summary.{Summary}
-use Rattle.canonical_writer.specs.declared.errors.WriteError.{WriteError}
 use Rattle.canonical_writer.specs.declared.errors.WriteError.TheVariants as error
-use Rattle.canonical_writer.specs.Writer.{size_with, closing_due}
-use Rattle.splicer.specs.Due.{Ending, Closes, Breaks, Gives, Course, Passes, Refuses, course, Due, Writes, Stops}
-use Rattle.splicer.specs.Due.{closed_due, IsDueOf, IsDueOfHeld, IsDueAfter, IsDue, IsDueAtEnd, Next}
+use Rattle.canonical_writer.specs.Writer.{size_with}
+use Rattle.splicer.specs.Due.{Ending, Closes, Breaks, Gives, Course, Passes, Refuses, course, Writes}
+use Rattle.splicer.specs.Due.{closed_due, IsDueOfHeld, IsDueAfter, IsDue, IsDueAtEnd, Next}
 use Rattle.canonical_laws.proofs.KeptContents.{kept_contents}
 use Rattle.canonical_laws.proofs.TellingApart.{tells}
 use Rattle.splicer.specs.Laws.{IsCopyOf, CopiesAreCanonical, CopiesTellContents}
@@ -27,7 +25,7 @@ abbrev at-end : Next
 at-end closing stood due = IsDueAtEnd closing stood due
 
 -- the bytes of a canonical file are those that were told before its closing part, and those of that
-file-size : (closing : Closing) (frames : List Frame)
+pub file-size : (closing : Closing) (frames : List Frame)
     → length (canonical_file closing frames) ≡ size_with (after_frames begun frames) closing
 file-size closing frames =
     length-append (canonical_head frames) (closing_part (after_frames begun frames) closing)

@@ -12,3 +12,5 @@ pub mod PutsOn
 pub mod FirstPut
 pub mod Closed
 pub mod Copies
+pub mod OwnFrames
+pub mod OwnCopies

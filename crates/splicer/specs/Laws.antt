@@ -1,13 +1,17 @@
 -- The laws of splices and copies.
-use Rattle.std.specs.Prelude.{◌≡◌, ◌↔◌, ◌≤◌, ℕ, List, [], ◌∷◌, length, Some}
+use Rattle.std.specs.Prelude.{◌≡◌, ◌↔◌, ◌≤◌, ℕ, true, List, [], ◌∷◌, length, Some}
+use Rattle.std.specs.List.{AllZip}
 use Rattle.frame_outside.specs.Shelf.{Files}
+use Rattle.file_grammar.specs.declared.fault.Fault.{Fault}
 use Rattle.file_grammar.specs.Structure.{file_limit}
 use Rattle.frame_content.specs.Frames.{Frame}
 use Rattle.canonical_file.specs.declared.closing.Closing.{Closing}
-use Rattle.canonical_file.specs.Written.{canonical_file}
+use Rattle.canonical_file.specs.Ordered.{IsInOrder}
+use Rattle.canonical_file.specs.Written.{canonical_head, canonical_file}
 use Rattle.canonical_file.specs.Contents.{Content, SameContent, IsCanonical}
 use Rattle.canonical_laws.specs.Content.{HasContent}
-use Rattle.splicer.specs.Due.{Due, Writes, HoldBytes, IsDue}
+use Rattle.splicer.specs.declared.errors.SpliceError.TheVariants as splice
+use Rattle.splicer.specs.Due.{Breaks, Gives, Due, Writes, Stops, HoldBytes, IsDue, output_of, is_whole}
 
 -- Of files that hold bytes a splice is due.
 abbrev pub EachSpliceHasADue : Type 0
@@ -42,3 +46,19 @@ CopiesTellContents =
     → (c d : Content) × IsCopyOf files name c (canonical_file closing frames)
     × IsCopyOf others other d (canonical_file end ends)
     × ((canonical_file closing frames ≡ canonical_file end ends) ↔ SameContent c d)
+
+-- A copy of a well-formed file is due whole, and is the canonical file of its content, within the limit of files.
+abbrev pub CopiesAreDone : Type 0
+CopiesAreDone =
+    (files : Files) (name file : List ℕ) (c : Content) (bytes : List ℕ) (due : Due) → files name ≡ Some file
+    → HasContent file c → IsCanonical c bytes → length bytes ≤ file_limit → IsDue files (name ∷ []) due
+    → (output_of due ≡ bytes) × (is_whole due ≡ true)
+
+-- Of a copy of any other file its first fault is due, after the canonical head of the frames before it, where that is
+-- within the limit of files.
+abbrev pub CopiesNameFaults : Type 0
+CopiesNameFaults =
+    (files : Files) (name file : List ℕ) (fault : Fault) (frames ordered : List Frame) (due : Due)
+    → files name ≡ Some file → Gives file frames (Breaks fault) → AllZip IsInOrder frames ordered
+    → length (canonical_head ordered) ≤ file_limit → IsDue files (name ∷ []) due
+    → due ≡ Stops (splice.Fault 0 fault) ordered

@@ -2,6 +2,7 @@
 //! has the law.
 
 ghost use Rattle.splicer.specs.Laws.{EachSpliceHasADue, NoSpliceHasTwoDues, CopiesAreCanonical, CopiesTellContents};
+ghost use Rattle.splicer.specs.Laws.{CopiesAreDone, CopiesNameFaults};
 
 /// Of files that hold bytes exactly one splice is due.
 pub fn each_splice_has_one_due()
@@ -14,4 +15,10 @@ pub fn each_splice_has_one_due()
 pub fn copies_tell_contents()
     ensures canonical { CopiesAreCanonical }
     ensures tell { CopiesTellContents }
+{}
+
+/// Within the limit of files, a copy of a well-formed file is due whole, and of any other file its first fault is due.
+pub fn copies_are_done()
+    ensures done { CopiesAreDone }
+    ensures faults { CopiesNameFaults }
 {}
