@@ -11,6 +11,11 @@ pub mod PutItems
 pub mod PutsOn
 pub mod FirstPut
 pub mod Closed
+pub mod DueParts
+pub mod FirstInput
+pub mod SpliceEnds
+pub mod SpliceErrors
+pub mod Splicing
 pub mod Copies
 pub mod OwnFrames
 pub mod OwnCopies

@@ -4,4 +4,5 @@ pub mod Errors
 pub mod Closings
 pub mod Made
 pub mod Put
+pub mod Spliced
 pub mod Laws

@@ -1,15 +1,15 @@
 //! Splices: the frames of files in one canonical file, with the closing of the first.
 
-ghost use Rattle.std.specs.Prelude.{◌≡◌, ◌≢◌, ◌<◌, ◌+◌, ◌^◌, ◌⊎◌, ℕ, List, All, map, length, None, Some, Err, OnOk, OnErr};
-ghost use Rattle.std.specs.Prelude.{IfErr, IsErrOf};
+ghost use Rattle.std.specs.Prelude.{◌≡◌, ◌≢◌, ◌<◌, ◌≤◌, ◌^◌, ℕ, List, [], All, map, length, None, Err, OnOk, IfErr, IsSome};
 ghost use Rattle.std.specs.String.{string_bytes};
 ghost use Rattle.frame_outside.specs.Counts.{Rose};
-ghost use Rattle.frame_outside.specs.Shelf.{Outside, Told, IsSource, IsTarget, reading_at};
-ghost use Rattle.splicer.specs.Due.{Due, IsDue, IsAnswer, Leaves, answer_of};
+ghost use Rattle.frame_outside.specs.Shelf.{Outside, Files, Told, IsSource, IsTarget, reading_at};
+ghost use Rattle.splicer.specs.Due.{Due, IsDue, IsDueFrom, IsAnswer, Leaves, answer_of};
 ghost use Rattle.splicer.specs.Errors.{IsOfInputs};
-ghost use Rattle.splicer.specs.Made.{WritesOneFile};
+ghost use Rattle.splicer.specs.Made.{IsMade, WritesOneFile};
+ghost use Rattle.splicer.specs.Spliced.{HasOpened, Ends, PutsInputs, LeavesShelf, KeepsShelf};
 
-use crate::errors::{InputError, SpliceError};
+use crate::errors::SpliceError;
 use crate::inputs::put_input;
 use canonical_writer::{CanonWriter, Summary};
 use frame_outside::Shelf;
@@ -51,11 +51,24 @@ fn splice_into<S: Shelf>(
     mut writer: CanonWriter,
     slot: u32,
     from: &[String],
-) -> Result<Summary, SpliceError> {
-    match put_inputs(alloc, shelf, &mut writer, slot, from) {
-        Ok(()) => Ok(writer.close(shelf)?),
-        Err(error) => Err(error),
-    }
+) -> Result<Summary, SpliceError>
+    requires some { 0 < length from.now }
+    requires few { length from.now < 2 ^ 32 }
+    requires source { IsSource (S.outside shelf.old).slots slot }
+    requires beginning { Told (reading_at (S.outside shelf.old).slots slot) (λ reading. reading.at ≡ 0) }
+    requires target { IsTarget (S.outside shelf.old).slots writer.slot }
+    requires error { writer.error ≡ None }
+    ensures ends { (old : Outside) (to : List ℕ) (files : Files)
+        → HasOpened files (map string_bytes from.now) old (S.outside shelf.old) to 0 slot writer → (due : Due)
+        → IsDueFrom files None [] 0 (map string_bytes from.now) due
+        → Ends files old (S.outside shelf.new) to due result }
+    ensures leaves { (old : Outside) (to : List ℕ) → length old.slots ≤ slot
+        → IsMade old (S.outside shelf.old) to 1 writer.slot
+        → LeavesShelf old (S.outside shelf.new) to (length from.now) result }
+    ensures inputs { IfErr result (IsOfInputs (length from.now)) }
+{
+    put_inputs(alloc, shelf, &mut writer, slot, from)?;
+    Ok(writer.close(shelf)?)
 }
 
 /// Writes all inputs, the first of which was opened. Each further one is opened at its turn.
@@ -65,11 +78,28 @@ fn put_inputs<S: Shelf>(
     writer: &mut CanonWriter,
     slot: u32,
     from: &[String],
-) -> Result<(), SpliceError> {
+) -> Result<(), SpliceError>
+    requires some { 0 < length from.now }
+    requires few { length from.now < 2 ^ 32 }
+    requires source { IsSource (S.outside shelf.old).slots slot }
+    requires beginning { Told (reading_at (S.outside shelf.old).slots slot) (λ reading. reading.at ≡ 0) }
+    requires target { IsTarget (S.outside shelf.old).slots writer.old.slot }
+    requires error { writer.old.error ≡ None }
+    ensures puts { (old : Outside) (to : List ℕ) (files : Files)
+        → HasOpened files (map string_bytes from.now) old (S.outside shelf.old) to 0 slot writer.old
+        → PutsInputs files (map string_bytes from.now) old (S.outside shelf.new) to writer.new result }
+    ensures made { (old : Outside) (to : List ℕ) → length old.slots ≤ slot
+        → IsMade old (S.outside shelf.old) to 1 writer.old.slot
+        → KeepsShelf old (S.outside shelf.new) to (length from.now) writer.new.slot result }
+    ensures inputs { IfErr result (IsOfInputs (length from.now)) }
+    ensures target { OnOk result (IsTarget (S.outside shelf.new).slots writer.new.slot) }
+    ensures no_error { OnOk result (writer.new.error ≡ None) }
+    ensures holds { OnOk result (IsSome writer.new.closing) }
+{
     if let Err(error) = put_input(alloc, shelf, writer, slot, true) {
         return Err(error.of_input(0));
     }
-    for number in 1..from.len() {
+    'inputs: for number in 1..from.len() {
         let slot = shelf.source(alloc, from[number].as_str())?;
         if let Err(error) = put_input(alloc, shelf, writer, slot, false) {
             return Err(error.of_input(number as u32));
