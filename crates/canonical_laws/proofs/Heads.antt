@@ -11,16 +11,19 @@ use Rattle.file_grammar.specs.Structure.{file_limit}
 use Rattle.file_grammar.specs.Item.{Item, Before}
 use Rattle.file_grammar.specs.MayStand.{frames_limit, Stand}
 use Rattle.frame_content.specs.Frames.{Frame}
-use Rattle.canonical_file.specs.Records.{records_of, entries_after}
+use Rattle.contents_table.specs.Built.{with_frame_at}
+use Rattle.canonical_file.specs.Records.{records_of, entries_after, pieces_of, record_places}
 use Rattle.canonical_file.specs.Written.{Written, frame_part, after_frame, after_frames, frame_parts}
-use Rattle.file_content.specs.Stored.{frame_ended, table_here, seek_told}
-use Rattle.file_content.specs.Contents.{content_frame}
+use Rattle.file_content.specs.Stored.{StoredFrame, frame_ended, table_here, seek_told}
+use Rattle.file_content.specs.Contents.{content_frame, with_stored}
 use Rattle.canonical_laws.specs.Writable.{IsWritableFrame, as_read}
 use Rattle.canonical_laws.proofs.Holding.{Holds, holds-left, holds-right, holds-at}
 use Rattle.canonical_laws.proofs.AgreeingEntries.{entries-longer}
 use Rattle.canonical_laws.proofs.RecordsInTurn.{stand-append, bytes_of}
-use Rattle.canonical_laws.proofs.FrameEnds.{brings, frames_from, brings-append}
-use Rattle.canonical_laws.proofs.WholeFrames.{IsBetween, after_end, frame_items, FrameStands, frame-stands}
+use Rattle.canonical_laws.proofs.FrameEnds.{brings, frames_from, brings-append, stored_frame}
+use Rattle.canonical_laws.proofs.WholeFrames.{IsBetween, before_end, end_structure, after_end, frame_items}
+use Rattle.canonical_laws.proofs.WholeFrames.{FrameStands, MayStandAt, frame-stored, frame-stands}
+use Rattle.canonical_laws.proofs.FramesListed.{stored-listed}
 
 -- What is written tells what stands before a place.
 pub record Tells (w : Written) (b : Before) : Type 0 where
@@ -57,6 +60,7 @@ pub record HeadStands (dictionary : List Entry) (file : List ℕ) (w : Written) 
   pub tells : Tells (after_frames w fs) (after_all b fs)
   pub tables : brings table_here b (frames_items b fs) ≡ []
   pub seeks : brings (seek_told Little) b (frames_items b fs) ≡ []
+  pub listed : fold (with_stored Little) w.built (frames_from b (frames_items b fs)) ≡ (after_frames w fs).built
 
 -- entries are never fewer
 frames-longer : (w : Written) (fs : List Frame) → length w.entries ≤ length (after_frames w fs).entries
@@ -68,7 +72,15 @@ pub head-stands : (dictionary : List Entry) (file : List ℕ) (w : Written) (b :
     → b.frames + length fs ≤ frames_limit → length (after_frames w fs).entries < 256 ^ 4 → length file ≤ file_limit
     → Holds file b.place (part_bytes w fs) → HeadStands dictionary file w b fs
 head-stands dictionary file w b [] sound all between tells few_frames few limit h =
-    record { stand = refl; frames = refl; between = between; tells = tells; tables = refl; seeks = refl }
+    record {
+      stand = refl;
+      frames = refl;
+      between = between;
+      tells = tells;
+      tables = refl;
+      seeks = refl;
+      listed = refl;
+    }
 head-stands dictionary file w b (f ∷ fs) sound all between tells few_frames few limit h =
     let part : List ℕ = frame_part w f in
     let more : List ℕ = part_bytes (after_frame w f) fs in
@@ -77,7 +89,7 @@ head-stands dictionary file w b (f ∷ fs) sound all between tells few_frames fe
     let same : part ≡ bytes_of b.dictionary (records_of f) = ap (λ es. bytes_of es (records_of f)) tells.entries in
     let entries : state.entries ≡ entries_after b.dictionary (records_of f) =
     ap (λ es. entries_after es (records_of f)) tells.entries in
-    let one : FrameStands dictionary file b f = frame-stands dictionary file b f (record {
+    let may : MayStandAt dictionary file b f = record {
       sound = sound;
       writable = all.0;
       between = between;
@@ -85,7 +97,13 @@ head-stands dictionary file w b (f ∷ fs) sound all between tells few_frames fe
       few = omega (arith, few, frames-longer state fs, ap length entries);
       limit = limit;
       holds = subst (Holds file b.place) same (holds-left file b.place part more h);
-    }) in
+    } in
+    let one : FrameStands dictionary file b f = frame-stands dictionary file b f may in
+    let later : List StoredFrame = frames_from next (frames_items next fs) in
+    let here : with_stored Little w.built (stored_frame (before_end b f) (end_structure b f)) ≡ state.built =
+    stored-listed dictionary file b f w.built may
+    ∙ (λ i. with_frame_at
+    (record_places (sym tells.size i) (pieces_of (sym tells.entries i) (records_of f))) f w.built) in
     let told : Tells state next = record {
       size = omega (arith, tells.size, one.place, ap length same);
       entries = entries ∙ sym one.entries;
@@ -106,6 +124,11 @@ head-stands dictionary file w b (f ∷ fs) sound all between tells few_frames fe
           ∙ (λ i. one.tables i ++ rest.tables i);
       seeks = brings-append (seek_told Little) file b next (frame_items b f) (frames_items next fs) one.stand
           ∙ (λ i. one.seeks i ++ rest.seeks i);
+      listed = ap (fold (with_stored Little) w.built)
+          (brings-append frame_ended file b next (frame_items b f) (frames_items next fs) one.stand
+          ∙ ap (λ frames. frames ++ later) (frame-stored dictionary file b f may))
+          ∙ ap (λ built. fold (with_stored Little) built later) here
+          ∙ rest.listed;
     }
 
 pub count-frames : (w : Written) (fs : List Frame) → (after_frames w fs).frames ≡ w.frames + length fs

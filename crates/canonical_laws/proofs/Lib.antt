@@ -41,3 +41,14 @@ pub mod FramesCounted
 pub mod Sources
 pub mod KeptContents
 pub mod TableStates
+pub mod OpenHeads
+pub mod ChannelRows
+pub mod ListedPlaces
+pub mod RowPlaces
+pub mod FramesListed
+pub mod BuiltFrames
+pub mod BodySizes
+pub mod TableValues
+pub mod TablePositions
+pub mod TablesBack
+pub mod GoodTables

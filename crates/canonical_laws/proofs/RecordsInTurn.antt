@@ -110,7 +110,7 @@ place-after b (r ∷ rs) =
 
 -- ---- records behind others
 
-pieces-append : (entries : List Entry) (rs ss : List Record)
+pub pieces-append : (entries : List Entry) (rs ss : List Record)
     → pieces_of entries (rs ++ ss) ≡ pieces_of entries rs ++ pieces_of (entries_after entries rs) ss
 pieces-append entries [] ss = refl
 pieces-append entries (r ∷ rs) ss = ap (λ ps. piece_of entries r ∷ ps) (pieces-append (with_record entries r) rs ss)

@@ -13,7 +13,8 @@ use Rattle.file_grammar.specs.Structure.{file_limit}
 use Rattle.file_grammar.specs.Item.{Item, Before, nothing_yet}
 use Rattle.file_grammar.specs.MayStand.{frames_limit, IsWellFormed}
 use Rattle.frame_content.specs.Frames.{Frame}
-use Rattle.file_content.specs.Stored.{table_here, seek_told}
+use Rattle.file_content.specs.Stored.{StoredFrame, frame_ended, table_here, seek_told, frames_in}
+use Rattle.file_content.specs.Contents.{built_of}
 use Rattle.canonical_file.specs.declared.closing.Closing.{Closing}
 use Rattle.canonical_file.specs.Written.{Written, begun, after_frames, after_table, closing_part, canonical_head}
 use Rattle.canonical_file.specs.Written.{canonical_file}
@@ -23,7 +24,7 @@ use Rattle.canonical_laws.specs.Writable.{IsWritableFrame, as_read, IsWritableFi
 use Rattle.canonical_laws.specs.Laws.{ReadsBack, WrittenFilesAreReadBack}
 use Rattle.canonical_laws.proofs.Holding.{Holds}
 use Rattle.canonical_laws.proofs.RecordsInTurn.{stand-append}
-use Rattle.canonical_laws.proofs.FrameEnds.{brings, brings-append}
+use Rattle.canonical_laws.proofs.FrameEnds.{brings, frames_from, brings-append}
 use Rattle.canonical_laws.proofs.WholeFrames.{IsBetween}
 use Rattle.canonical_laws.proofs.Heads.{Tells, part_bytes, after_all, frames_items, read_from, read-append, HeadStands}
 use Rattle.canonical_laws.proofs.Heads.{head-stands, count-frames}
@@ -78,7 +79,8 @@ whole-head dictionary fs more all limit =
 
 -- ---- the file
 
-closes : (dictionary : List Entry) (fs : List Frame) (e : Entry) (table : Option Entry) → AreWritten dictionary fs
+-- what is known where the closing part is to stand
+pub closes : (dictionary : List Entry) (fs : List Frame) (e : Entry) (table : Option Entry) → AreWritten dictionary fs
     → IsWritableFileEnd dictionary e → IfSome table (IsWritableTable dictionary)
     → length (canonical_file (record { end = e; table = table }) fs) ≤ file_limit
     → Closes dictionary (canonical_file (record { end = e; table = table }) fs) (after_frames begun fs)
@@ -129,6 +131,8 @@ pub record StandsAs (fs : List Frame) (e : Entry) (table : Option Entry) : Type 
       ≡ written_table (after_frames begun fs) (after_all nothing_yet fs) table
   pub seeks : brings (seek_told Little) nothing_yet (file_items fs e table)
       ≡ told_seek (after_frames begun fs) e table ∷ []
+  pub channels : built_of Little (frames_in Little (file_items fs e table)) ≡ (after_frames begun fs).built
+  pub count : (file_last fs e table).frames ≡ (after_frames begun fs).frames
 
 pub file-stands : (dictionary : List Entry) (fs : List Frame) (e : Entry) (table : Option Entry)
     → AreWritten dictionary fs
@@ -149,7 +153,9 @@ file-stands dictionary fs e table all end table_is limit =
     let stand = closing-stands dictionary file w b e table may in
     let ends = ends-file dictionary file w b e table may in
     let front : length (canonical_head fs) ≡ b.place = head-size fs ∙ head.tells.size in
-    let none : read_from b more ≡ [] = ap (map _) (closing-frames dictionary file w b e table may) in
+    let ended : frames_from b more ≡ [] = closing-frames dictionary file w b e table may in
+    let none : read_from b more ≡ [] = ap (map _) ended in
+    let first : List StoredFrame = frames_from nothing_yet (frames_items nothing_yet fs) in
     record {
       well_formed = record {
         begins = record {
@@ -175,6 +181,12 @@ file-stands dictionary fs e table all end table_is limit =
           ∙ (λ i. head.tables i ++ closing-tables dictionary file w b e table may i);
       seeks = brings-append (seek_told Little) file nothing_yet b (frames_items nothing_yet fs) more head.stand
           ∙ (λ i. head.seeks i ++ closing-seeks dictionary file w b e table may i);
+      channels = ap (built_of Little)
+          (brings-append frame_ended file nothing_yet b (frames_items nothing_yet fs) more head.stand
+          ∙ ap (λ frames. first ++ frames) ended
+          ∙ append-nil first)
+          ∙ head.listed;
+      count = sym past.tells.count;
     }
 
 -- ---- it reads back

@@ -144,7 +144,7 @@ few-rows dictionary file b f may =
     )
 
 -- the rows may follow, and their records can be written
-follow : (dictionary : List Entry) (file : List ℕ) (b : Before) (f : Frame) → MayStandAt dictionary file b f
+pub follow : (dictionary : List Entry) (file : List ℕ) (b : Before) (f : Frame) → MayStandAt dictionary file b f
     → RowsFollow dictionary f b (rows_of f)
 follow dictionary file b f may =
     rows-follow dictionary f 0 f.rows b may.sound may.writable.rows (start dictionary f b may.between) refl
@@ -234,7 +234,7 @@ end-part dictionary file b f may =
     (follow dictionary file b f may).going.unclosed few may.limit right ended
 
 -- the frame that it ends reads back
-reads-back : (dictionary : List Entry) (file : List ℕ) (b : Before) (f : Frame) → MayStandAt dictionary file b f
+pub reads-back : (dictionary : List Entry) (file : List ℕ) (b : Before) (f : Frame) → MayStandAt dictionary file b f
     → content_frame Little (stored_frame (before_end b f) (end_structure b f)) ≡ as_read f
 reads-back dictionary file b f may =
     let all = gone dictionary file b f may in
@@ -272,6 +272,14 @@ end-kind dictionary file b f may =
     let w = may.writable.end in
     kind-held (before_end b f).dictionary f.end.entry w.writable.entry.low (end-held dictionary file b f may) ∙ w.kind
 
+-- The frame is the one of its items.
+pub frame-stored : (dictionary : List Entry) (file : List ℕ) (b : Before) (f : Frame)
+    → MayStandAt dictionary file b f
+    → frames_from b (frame_items b f) ≡ stored_frame (before_end b f) (end_structure b f) ∷ []
+frame-stored dictionary file b f may =
+    frame-brings frame_ended rows-end_none dictionary file b f may
+    ∙ ap (λ k. frame_of_kind k (before_end b f) (end_structure b f) ++ []) (end-kind dictionary file b f may)
+
 -- The whole frame.
 pub frame-stands : (dictionary : List Entry) (file : List ℕ) (b : Before) (f : Frame)
     → MayStandAt dictionary file b f → FrameStands dictionary file b f
@@ -291,8 +299,6 @@ frame-stands dictionary file b f may =
     records-stand file b rs writable follows.follow may.limit left in
     let s : Structure = end_structure b f in
     let kind = end-kind dictionary file b f may in
-    let frames : frames_from b (frame_items b f) ≡ stored_frame next s ∷ [] =
-    frame-brings frame_ended rows-end_none dictionary file b f may ∙ ap (λ k. frame_of_kind k next s ++ []) kind in
     let tables : brings table_here b (frame_items b f) ≡ [] =
     frame-brings table_here rows-no_table dictionary file b f may ∙ ap (λ k. table_of_kind k next s ++ []) kind in
     let seeks : brings (seek_told Little) b (frame_items b f) ≡ [] =
@@ -301,7 +307,8 @@ frame-stands dictionary file b f may =
     record {
       stand = stand-append Little file b mid (after_end b f) (items_of b rs) (piece_items mid e) rows
           (end-part dictionary file b f may);
-      frames = ap (map (content_frame Little)) frames ∙ ap (λ (g : Frame). g ∷ []) (reads-back dictionary file b f may);
+      frames = ap (map (content_frame Little)) (frame-stored dictionary file b f may)
+          ∙ ap (λ (g : Frame). g ∷ []) (reads-back dictionary file b f may);
       between = record {
         entries = added-in dictionary mid.dictionary o f.end.entry follows.going.entries w.held;
         frame = refl;

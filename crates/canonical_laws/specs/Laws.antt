@@ -1,5 +1,5 @@
 -- The laws of contents and canonical files.
-use Rattle.std.specs.Prelude.{◌≡◌, ◌≤◌, ◌↔◌, ℕ, List, [], length, map}
+use Rattle.std.specs.Prelude.{◌≡◌, ◌<◌, ◌≤◌, ◌↔◌, ℕ, List, [], length, map, take}
 use Rattle.std.specs.List.{AllByRecursion}
 use Rattle.scalar_types.specs.declared.Order.TheVariants.{Little}
 use Rattle.dictionary.specs.declared.entries.Entry.{Entry}
@@ -7,13 +7,14 @@ use Rattle.dictionary.specs.Dictionary.{IsDictionary}
 use Rattle.file_grammar.specs.Structure.{file_limit}
 use Rattle.file_grammar.specs.Item.{Item, Before}
 use Rattle.file_grammar.specs.MayStand.{frames_limit, IsWellFormed}
+use Rattle.file_grammar.specs.Laws.{WellFormed}
 use Rattle.frame_content.specs.Frames.{Frame}
 use Rattle.file_content.specs.declared.state.TableState.TheVariants as state
 use Rattle.file_content.specs.declared.contents.Contents.{Contents}
 use Rattle.file_content.specs.Contents.{AreContents}
 use Rattle.canonical_file.specs.declared.closing.Closing.{Closing}
 use Rattle.canonical_file.specs.Ranges.{AreBytes}
-use Rattle.canonical_file.specs.Written.{begun, after_frames, table_piece, canonical_file}
+use Rattle.canonical_file.specs.Written.{begun, after_frames, table_piece, canonical_head, canonical_file}
 use Rattle.canonical_file.specs.Contents.{Content, SameContent, IsCanonical}
 use Rattle.canonical_laws.specs.Content.{content_of, HasContent}
 use Rattle.canonical_laws.specs.Writable.{IsWritableFrame, as_read, IsWritableClosing}
@@ -44,6 +45,38 @@ UnwrittenTablesAreNone =
     → length frames ≤ frames_limit → length (canonical_file closing frames) ≤ file_limit
     → AreContents (canonical_file closing frames) c
     → (table_piece (after_frames begun frames) closing).record_itself ≡ [] → c.table ≡ state.None
+
+-- The contents table of such a file is good where its record is written.
+abbrev pub WrittenTablesAreGood : Type 0
+WrittenTablesAreGood =
+    (dictionary : List Entry) (frames : List Frame) (closing : Closing) (c : Contents) → IsDictionary dictionary
+    → AllByRecursion (IsWritableFrame dictionary) frames → IsWritableClosing dictionary closing
+    → length frames ≤ frames_limit → length (canonical_file closing frames) ≤ file_limit
+    → AreContents (canonical_file closing frames) c
+    → ((table_piece (after_frames begun frames) closing).record_itself ≡ [] → ⊥) → c.table ≡ state.Good
+
+-- ---- parts of canonical files
+
+-- The canonical head of frames that can be written is not well-formed, nor is a part of it from its beginning on.
+abbrev pub NoCanonicalHeadIsWhole : Type 0
+NoCanonicalHeadIsWhole =
+    (dictionary : List Entry) (frames : List Frame) → IsDictionary dictionary
+    → AllByRecursion (IsWritableFrame dictionary) frames → length frames ≤ frames_limit
+    → length (canonical_head frames) ≤ file_limit → WellFormed (canonical_head frames) → ⊥
+
+abbrev pub NoPartOfAHeadIsWhole : Type 0
+NoPartOfAHeadIsWhole =
+    (dictionary : List Entry) (frames : List Frame) (n : ℕ) → IsDictionary dictionary
+    → AllByRecursion (IsWritableFrame dictionary) frames → length frames ≤ frames_limit
+    → length (canonical_head frames) ≤ file_limit → WellFormed (take n (canonical_head frames)) → ⊥
+
+-- Nor is a part of a canonical file that ends before the file does.
+abbrev pub NoPartOfACanonicalFileIsWhole : Type 0
+NoPartOfACanonicalFileIsWhole =
+    (dictionary : List Entry) (frames : List Frame) (closing : Closing) (n : ℕ) → IsDictionary dictionary
+    → AllByRecursion (IsWritableFrame dictionary) frames → IsWritableClosing dictionary closing
+    → length frames ≤ frames_limit → length (canonical_file closing frames) ≤ file_limit
+    → n < length (canonical_file closing frames) → WellFormed (take n (canonical_file closing frames)) → ⊥
 
 -- ---- contents and their canonical files
 

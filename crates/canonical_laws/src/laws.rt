@@ -2,6 +2,9 @@
 //! that calls the function has the law.
 
 ghost use Rattle.canonical_laws.specs.Laws.{WrittenFilesAreReadBack, UnwrittenTablesAreNone};
+ghost use Rattle.canonical_laws.specs.Laws.{WrittenTablesAreGood};
+ghost use Rattle.canonical_laws.specs.Laws.{NoCanonicalHeadIsWhole, NoPartOfAHeadIsWhole};
+ghost use Rattle.canonical_laws.specs.Laws.{NoPartOfACanonicalFileIsWhole};
 ghost use Rattle.canonical_laws.specs.Laws.{ContentsAreUnique};
 ghost use Rattle.canonical_laws.specs.Laws.{CanonicalFilesAreUnique, CanonicalFilesKeepContents};
 ghost use Rattle.canonical_laws.specs.Laws.{CanonicalFilesTellContents, CanonicalFilesStay};
@@ -24,6 +27,21 @@ pub fn sources_can_be_written()
 /// The contents table of such a file is none where its record is not written.
 pub fn unwritten_tables_are_none()
     ensures { UnwrittenTablesAreNone }
+{}
+
+/// The contents table of such a file is good where its record is written: it lists the frames, and the channels
+/// of each kind, where they stand in this file.
+pub fn canonical_tables_are_good()
+    ensures { WrittenTablesAreGood }
+{}
+
+/// The canonical head of frames that can be written is no well-formed file, nor is any part of it from its
+/// beginning on, nor any part of a canonical file that ends before the file does. So a file that was not
+/// written to its end is never taken for a whole one.
+pub fn no_canonical_head_is_whole()
+    ensures heads { NoCanonicalHeadIsWhole }
+    ensures parts { NoPartOfAHeadIsWhole }
+    ensures files { NoPartOfACanonicalFileIsWhole }
 {}
 
 /// A file has one content, and a content has one canonical file.
