@@ -28,18 +28,21 @@ TellsSome t = t.1 ≡ told.Nothing → ⊥
 first-some : (ts : List (ℕ × Tells)) (i k : ℕ) (u : Tells) → slice_get ts i ≡ Some (k, u)
     → AllByRecursion TellsSome ts → unwrap_or (first_of_number ts k) told.Nothing ≡ told.Nothing → ⊥
 first-some [] i k u at all nothing = none-some (k, u) at
-first-some (t ∷ ts) i k u at all nothing = by (t.0 == k) refl nothing i at
+first-some (t ∷ ts) i k u at all nothing =
+    by (t.0 == k) refl nothing i at (λ j there rest. first-some ts j k u there all.1 rest)
   where
     by : (b : Bool) → (t.0 == k) ≡ b
         → unwrap_or (option_map (λ (t : ℕ × Tells). t.1) (cond b (Some t) (find (is_of k) ts))) told.Nothing
         ≡ told.Nothing
-        → (i : ℕ) → slice_get (t ∷ ts) i ≡ Some (k, u) → ⊥
-    by true is nothing i at = all.0 nothing
-    by false is nothing zero at =
+        → (i : ℕ) → slice_get (t ∷ ts) i ≡ Some (k, u)
+        → ((j : ℕ) → slice_get ts j ≡ Some (k, u)
+        → unwrap_or (first_of_number ts k) told.Nothing ≡ told.Nothing → ⊥) → ⊥
+    by true is nothing i at later = all.0 nothing
+    by false is nothing zero at later =
         let same : t.0 ≡ k = ap (λ (t : ℕ × Tells). t.0) (same_Some t (k, u) at) in
         let other : (t.0 == k) ≡ true = eq-eqb t.0 k same in
         cc
-    by false is nothing (suc i) at = first-some ts i k u at all.1 nothing
+    by false is nothing (suc i) at later = later i at nothing
 
 -- those of a kind do, with others that do
 kind-tell : (kind : Kind) (kf : KindFields) (ts : List (ℕ × Tells)) → AllByRecursion TellsSome ts
