@@ -52,3 +52,8 @@ pub mod TableValues
 pub mod TablePositions
 pub mod TablesBack
 pub mod GoodTables
+pub mod LikeEntries
+pub mod DictionaryParts
+pub mod UsedTogether
+pub mod FramesUnder
+pub mod SplicedFrames

@@ -10,6 +10,9 @@ ghost use Rattle.canonical_laws.specs.Laws.{CanonicalFilesAreUnique, CanonicalFi
 ghost use Rattle.canonical_laws.specs.Laws.{CanonicalFilesTellContents, CanonicalFilesStay};
 ghost use Rattle.canonical_laws.specs.Sources.{EntriesOfFilesAreWritable, FramesOfFilesAreWritable};
 ghost use Rattle.canonical_laws.specs.Sources.{ClosingsOfFilesAreWritable};
+ghost use Rattle.canonical_laws.specs.Spliced.{SplicedFramesAreWrittenTogether};
+ghost use Rattle.canonical_laws.specs.Spliced.{NoPartOfASplicedHeadIsWhole, NoPartOfASplicedFileIsWhole};
+ghost use Rattle.canonical_laws.specs.Spliced.{SplicedFilesAreReadBack};
 
 /// A canonical file of frames and of a closing that can be written is well-formed and reads back as these.
 pub fn written_files_are_read_back()
@@ -56,4 +59,22 @@ pub fn canonical_files_tell_contents()
     ensures keep { CanonicalFilesKeepContents }
     ensures tell { CanonicalFilesTellContents }
     ensures stay { CanonicalFilesStay }
+{}
+
+/// Frames of several files, none of which clashes with those before it, can be written by one dictionary with the
+/// closing of the first file.
+pub fn spliced_frames_are_written_together()
+    ensures { SplicedFramesAreWrittenTogether }
+{}
+
+/// No part of the canonical head of such frames is a well-formed file, nor is any part of their canonical file
+/// that ends before the file does.
+pub fn no_spliced_head_is_whole()
+    ensures heads { NoPartOfASplicedHeadIsWhole }
+    ensures files { NoPartOfASplicedFileIsWhole }
+{}
+
+/// The canonical file of such frames and of the closing is well-formed and reads back as these.
+pub fn spliced_files_are_read_back()
+    ensures { SplicedFilesAreReadBack }
 {}
