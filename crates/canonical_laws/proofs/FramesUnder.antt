@@ -131,7 +131,7 @@ link-same used f = λ i link. by link i
     by None = refl
     by (Some k) = λ i. record { class = class-row used f.rows k i; instance = instance-same used f k i }
 
-row-is : (used : List Entry) (f : Frame) (k : ℕ) → k < length f.rows
+pub row-is : (used : List Entry) (f : Frame) (k : ℕ) → k < length f.rows
     → row_at (frame_under used f) k ≡ row_under used (row_at f k)
 row-is used f k less = get_or-map (row_under used) f.rows k no_row no_row less
 

@@ -57,3 +57,5 @@ pub mod DictionaryParts
 pub mod UsedTogether
 pub mod FramesUnder
 pub mod SplicedFrames
+pub mod SplicesInOrder
+pub mod SplicedContents

@@ -1,16 +1,22 @@
 -- Frames of several files in one canonical file: they can be written by one dictionary, so no part of their file is
 -- well-formed, and the whole file is.
-use Rattle.std.specs.Prelude.{◌≡◌, ℕ, ◌<◌, ◌≤◌, Some, List, ◌++◌, length, take}
-use Rattle.std.specs.List.{AllByRecursion}
+use Rattle.std.specs.Prelude.{◌≡◌, ℕ, ◌<◌, ◌≤◌, Some, List, [], ◌++◌, length, take}
+use Rattle.std.specs.List.{AllByRecursion, AllZip}
+use Rattle.scalar_types.specs.declared.Order.{Order}
 use Rattle.dictionary.specs.declared.entries.Entry.{Entry}
 use Rattle.dictionary.specs.Dictionary.{IsDictionary}
 use Rattle.file_grammar.specs.Structure.{file_limit}
-use Rattle.file_grammar.specs.MayStand.{frames_limit}
+use Rattle.file_grammar.specs.Item.{Item, Before}
+use Rattle.file_grammar.specs.MayStand.{frames_limit, Begins}
 use Rattle.file_grammar.specs.Laws.{WellFormed}
 use Rattle.frame_content.specs.Frames.{Frame}
 use Rattle.canonical_file.specs.declared.closing.Closing.{Closing}
+use Rattle.canonical_file.specs.Ranges.{AreBytes}
+use Rattle.canonical_file.specs.Ordered.{IsInOrder}
 use Rattle.canonical_file.specs.Written.{begun, after_frames, canonical_head, canonical_file}
-use Rattle.canonical_file.specs.Splices.{NoneClashes, as_used}
+use Rattle.canonical_file.specs.Contents.{Content, IsCanonical}
+use Rattle.canonical_file.specs.Splices.{NoneClashes, as_used, IsSplice}
+use Rattle.canonical_laws.specs.Content.{content_of, HasContent}
 use Rattle.canonical_laws.specs.Writable.{IsWritableFrame, IsWritableClosing}
 use Rattle.canonical_laws.specs.Laws.{ReadsBack}
 
@@ -74,3 +80,48 @@ SplicedFilesAreReadBack =
     (closing : Closing) (front back : List Frame) → AreSpliced closing front back
     → length (front ++ back) ≤ frames_limit → length (canonical_file closing (front ++ back)) ≤ file_limit
     → ReadsBack (canonical_file closing (front ++ back)) closing (as_used (front ++ back))
+
+-- ---- the frames of files
+
+-- The frames that have ended in a beginning of a file of bytes can be written, each in its order.
+abbrev pub FramesOfFilesAreWritableSomewhere : Type 0
+FramesOfFilesAreWritableSomewhere =
+    (file : List ℕ) (order : Order) (items : List Item) (last : Before) (ordered : List Frame) → AreBytes file
+    → Begins file order items last → AllZip IsInOrder (content_of order items last).frames ordered
+    → AllByRecursion IsWritableSomewhere ordered
+
+-- The frames of a first file can be spliced.
+abbrev pub FirstFilesAreSpliced : Type 0
+FirstFilesAreSpliced =
+    (file : List ℕ) (c : Content) (front : List Frame) → AreBytes file → HasContent file c
+    → AllZip IsInOrder c.frames front → AreSpliced c.closing front []
+
+-- So can more frames after those that are, where they do not clash.
+abbrev pub MoreFramesAreSpliced : Type 0
+MoreFramesAreSpliced =
+    (closing : Closing) (front back more : List Frame) → AreSpliced closing front back
+    → AllByRecursion IsWritableSomewhere more
+    → NoneClashes (Some closing) (after_frames begun (front ++ back)) more → AreSpliced closing front (back ++ more)
+
+-- ---- splices
+
+-- The frames of a splice are in their orders, so what is written of them is its canonical file.
+abbrev pub SplicesAreCanonical : Type 0
+SplicesAreCanonical =
+    (first : Content) (others : List Content) (c : Content) → IsSplice first others c
+    → IsCanonical c (canonical_file c.closing c.frames)
+
+-- The canonical file of a splice of what files of bytes hold is well-formed, and its content is the splice.
+abbrev pub SplicesKeepContents : Type 0
+SplicesKeepContents =
+    (file : List ℕ) (files : List (List ℕ)) (first : Content) (others : List Content) (c : Content) (bytes : List ℕ)
+    → AreBytes file → AllByRecursion AreBytes files → HasContent file first → AllZip HasContent files others
+    → IsSplice first others c → IsCanonical c bytes → length bytes ≤ file_limit → HasContent bytes c
+
+-- No part of it from its beginning on is, that ends before the file does.
+abbrev pub NoPartOfASpliceIsWhole : Type 0
+NoPartOfASpliceIsWhole =
+    (file : List ℕ) (files : List (List ℕ)) (first : Content) (others : List Content) (c : Content) (bytes : List ℕ)
+    (n : ℕ) → AreBytes file → AllByRecursion AreBytes files → HasContent file first → AllZip HasContent files others
+    → IsSplice first others c → IsCanonical c bytes → length bytes ≤ file_limit → n < length bytes
+    → WellFormed (take n bytes) → ⊥

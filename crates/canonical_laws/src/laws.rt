@@ -12,7 +12,9 @@ ghost use Rattle.canonical_laws.specs.Sources.{EntriesOfFilesAreWritable, Frames
 ghost use Rattle.canonical_laws.specs.Sources.{ClosingsOfFilesAreWritable};
 ghost use Rattle.canonical_laws.specs.Spliced.{SplicedFramesAreWrittenTogether};
 ghost use Rattle.canonical_laws.specs.Spliced.{NoPartOfASplicedHeadIsWhole, NoPartOfASplicedFileIsWhole};
-ghost use Rattle.canonical_laws.specs.Spliced.{SplicedFilesAreReadBack};
+ghost use Rattle.canonical_laws.specs.Spliced.{SplicedFilesAreReadBack, FramesOfFilesAreWritableSomewhere};
+ghost use Rattle.canonical_laws.specs.Spliced.{FirstFilesAreSpliced, MoreFramesAreSpliced};
+ghost use Rattle.canonical_laws.specs.Spliced.{SplicesAreCanonical, SplicesKeepContents, NoPartOfASpliceIsWhole};
 
 /// A canonical file of frames and of a closing that can be written is well-formed and reads back as these.
 pub fn written_files_are_read_back()
@@ -77,4 +79,20 @@ pub fn no_spliced_head_is_whole()
 /// The canonical file of such frames and of the closing is well-formed and reads back as these.
 pub fn spliced_files_are_read_back()
     ensures { SplicedFilesAreReadBack }
+{}
+
+/// The frames of files of bytes are such frames: those of a first file with its closing, and then more frames of
+/// other files that do not clash.
+pub fn files_can_be_spliced()
+    ensures frames { FramesOfFilesAreWritableSomewhere }
+    ensures first { FirstFilesAreSpliced }
+    ensures more { MoreFramesAreSpliced }
+{}
+
+/// The canonical file of a splice of what files hold is well-formed, and its content is the splice. No part of it
+/// that ends before it does is well-formed.
+pub fn splices_keep_contents()
+    ensures canonical { SplicesAreCanonical }
+    ensures keep { SplicesKeepContents }
+    ensures parts { NoPartOfASpliceIsWhole }
 {}
