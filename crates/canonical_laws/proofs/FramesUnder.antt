@@ -17,7 +17,7 @@ use Rattle.file_grammar.specs.Kind.{kind_named}
 use Rattle.frame_content.specs.Labels.{Label}
 use Rattle.frame_content.specs.Frames.{Row, Frame, no_row, row_at, label_at}
 use Rattle.canonical_file.specs.Ordered.{class_of, class_at, is_of_class, instance_at, new_link}
-use Rattle.canonical_file.specs.Records.{Record, row_record, end_record, records_of, added_by, with_record, entries_after}
+use Rattle.canonical_file.specs.Records.{Record, end_record, records_of, added_by, with_record, entries_after}
 use Rattle.canonical_file.specs.Written.{Written, after_frame, after_frames}
 use Rattle.canonical_file.specs.Splices.{entry_under, label_under, row_under, frame_under}
 use Rattle.canonical_file.proofs.UsedEntries.{record_under, IsAlike, Agree, class-under, found-front, found-pushed}
@@ -63,9 +63,10 @@ under-records entries used rest (r ∷ rs) split agree =
     let own : used ≡ with_record entries r ++ (front.0 ++ rest) =
     split ∙ ap (λ xs. xs ++ rest) front.1 ∙ append_assoc (with_record entries r) front.0 rest in
     let one : IsUnder (with_record entries r ++ (front.0 ++ rest)) r.entry =
-    under-one entries (front.0 ++ rest) r.entry (entry_of entries r.entry.class) refl agree.0 in
-    (subst (λ used. IsUnder used r.entry) (sym own) one,
-    under-records (with_record entries r) used rest rs split agree.1)
+    under-one entries (front.0 ++ rest) r.entry (entry_of entries r.entry.class) refl agree.0 in (
+      subst (λ used. IsUnder used r.entry) (sym own) one,
+      under-records (with_record entries r) used rest rs split agree.1,
+    )
 
 pub under-frames : (w : Written) (used rest : List Entry) (fs : List Frame)
     → used ≡ (after_frames w fs).entries ++ rest → AgreeAll w fs
@@ -74,9 +75,10 @@ under-frames w used rest [] split agree = tt
 under-frames w used rest (f ∷ fs) split agree =
     let front = frames-front (after_frame w f) fs in
     let own : used ≡ (after_frame w f).entries ++ (front.0 ++ rest) =
-    split ∙ ap (λ xs. xs ++ rest) front.1 ∙ append_assoc (after_frame w f).entries front.0 rest in
-    (under-records w.entries used (front.0 ++ rest) (records_of f) own agree.0,
-    under-frames (after_frame w f) used rest fs split agree.1)
+    split ∙ ap (λ xs. xs ++ rest) front.1 ∙ append_assoc (after_frame w f).entries front.0 rest in (
+      under-records w.entries used (front.0 ++ rest) (records_of f) own agree.0,
+      under-frames (after_frame w f) used rest fs split agree.1,
+    )
 
 -- ---- the rows of a frame and its end
 

@@ -1,12 +1,11 @@
 -- Entries that are alike but for comments and the texts of types have equal layouts, and what one can write of a record
 -- the other can.
-use Rattle.std.proofs.Common.{◌≡◌, ℕ, ◌+◌, ◌≤◌, Bool, true, false, cond, Option, Some, None, List, [], ◌∷◌, ◌++◌, map}
+use Rattle.std.proofs.Common.{◌≡◌, ℕ, ◌+◌, ◌≤◌, Bool, true, false, cond, Some, List, [], ◌∷◌, ◌++◌, map}
 use Rattle.std.proofs.Common.{length, refl, sym, ap, ◌∙◌, subst}
 use Rattle.std.specs.Prelude.{option_and_then}
 use Rattle.std.specs.Option.{option_map}
 use Rattle.std.specs.Str.{bytes_eq}
 use Rattle.std.proofs.lemmas.List.{map-append}
-use Rattle.record_values.specs.declared.values.Value.{Value}
 use Rattle.dictionary.specs.declared.entries.Element.{Element}
 use Rattle.dictionary.specs.declared.entries.Entry.{Entry}
 use Rattle.dictionary.specs.Named.{first_named}
@@ -17,7 +16,7 @@ use Rattle.file_grammar.specs.Structure.{record_limit}
 use Rattle.frame_content.specs.Labels.{Label, printed_entry, unlinked}
 use Rattle.canonical_file.specs.Bytes.{body_bytes, structure_bytes}
 use Rattle.canonical_file.specs.Records.{Record, entry_fields, record_bytes}
-use Rattle.canonical_file.proofs.Bare.{bare_element, bare_entry, entry-fields-bare}
+use Rattle.canonical_file.proofs.Bare.{bare_element, entry-fields-bare}
 use Rattle.canonical_file.proofs.UsedEntries.{IsAlike}
 use Rattle.canonical_laws.specs.Writable.{IsWritableEntry, IsWritable, IsLabel, size_of_record}
 

@@ -21,7 +21,7 @@ use Rattle.canonical_file.specs.Written.{Written, begun, after_frame, after_fram
 use Rattle.canonical_file.specs.Contents.{Content}
 use Rattle.canonical_file.specs.Splices.{NoneClashes, frame_under, as_used, frames_in, IsSplice}
 use Rattle.canonical_laws.specs.Content.{content_of, HasContent}
-use Rattle.canonical_laws.specs.Writable.{IsWritableFrame, IsWritableClosing, as_read}
+use Rattle.canonical_laws.specs.Writable.{IsWritableClosing, as_read}
 use Rattle.canonical_laws.specs.Sources.{printed_entries, IsWritableInOrder}
 use Rattle.canonical_laws.specs.Laws.{ReadsBack}
 use Rattle.canonical_laws.specs.Spliced.{IsWritableSomewhere, AreSpliced, AreWrittenTogether, SplicesKeepContents}
@@ -32,7 +32,7 @@ use Rattle.canonical_laws.proofs.KeptContents.{orders-writable}
 use Rattle.canonical_laws.proofs.TellingApart.{canonical_unique}
 use Rattle.canonical_laws.proofs.UsedTogether.{all-append, none-append}
 use Rattle.canonical_laws.proofs.FramesUnder.{AreUnder, as_read-under}
-use Rattle.canonical_laws.proofs.SplicedFrames.{AreJoined, joined, spliced_back, together}
+use Rattle.canonical_laws.proofs.SplicedFrames.{joined, spliced_back, together}
 use Rattle.canonical_laws.proofs.SplicesInOrder.{splices_canonical}
 
 -- ---- the frames of files

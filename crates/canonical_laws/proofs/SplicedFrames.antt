@@ -1,6 +1,6 @@
 -- Frames of several files, none of which clashes, can be written by one dictionary: that of the entries used and of those
 -- of the closing.
-use Rattle.std.proofs.Common.{◌≡◌, ℕ, ◌<◌, ◌≤◌, true, false, true≢false, eqb, Option, Some, None, IfSome, IsSomeAnd}
+use Rattle.std.proofs.Common.{◌≡◌, ◌<◌, ◌≤◌, false, true≢false, eqb, Option, Some, None, IfSome, IsSomeAnd}
 use Rattle.std.proofs.Common.{List, [], ◌∷◌, ◌++◌, map, find, length, take, flat_map, refl, sym, ap, ◌∙◌, subst, append-nil}
 use Rattle.std.specs.List.{AllByRecursion}
 use Rattle.std.proofs.lemmas.List.{length-map}
@@ -9,7 +9,7 @@ use Rattle.std.specs.Str.{bytes_eq}
 use Rattle.std.proofs.lemmas.List.Folds.{find-append}
 use Rattle.frame_head.specs.Header.{header_bytes}
 use Rattle.dictionary.specs.declared.entries.Entry.{Entry}
-use Rattle.dictionary.specs.Dictionary.{entry_of, class_named, IsDictionary}
+use Rattle.dictionary.specs.Dictionary.{entry_of, IsDictionary}
 use Rattle.file_grammar.specs.Structure.{file_limit}
 use Rattle.file_grammar.specs.MayStand.{frames_limit}
 use Rattle.file_grammar.specs.Laws.{WellFormed}
@@ -17,7 +17,7 @@ use Rattle.file_grammar.specs.Kind.{kind_named, is_frame_kind}
 use Rattle.frame_content.specs.Frames.{Frame}
 use Rattle.canonical_file.specs.declared.closing.Closing.{Closing}
 use Rattle.canonical_file.specs.Records.{records_of}
-use Rattle.canonical_file.specs.Written.{begun, after_frames, closing_part, canonical_head, canonical_file}
+use Rattle.canonical_file.specs.Written.{begun, after_frames, closing_part}
 use Rattle.canonical_file.specs.Splices.{closing_entries, NoneClashes, frame_under, as_used}
 use Rattle.canonical_file.proofs.UsedFrames.{AgreeAll, frames-same}
 use Rattle.canonical_laws.specs.Writable.{IsWritableFrame, IsWritableFileEnd, IsWritableTable, IsWritableClosing}

@@ -1,17 +1,16 @@
 -- A frame in its order is in its order under the entries that are used, too: so the frames of a splice are.
-use Rattle.std.proofs.Common.{◌≡◌, ℕ, zero, suc, ◌+◌, ◌<◌, ◌≤◌, List, [], ◌∷◌, ◌++◌, map, filter_map, length}
+use Rattle.std.proofs.Common.{◌≡◌, ℕ, zero, suc, ◌+◌, ◌≤◌, List, [], ◌∷◌, ◌++◌, map, filter_map, length}
 use Rattle.std.proofs.Common.{refl, sym, ap, ◌∙◌, subst, arith}
 use Rattle.std.specs.List.{AllByRecursion, AllZip, range_with_len}
 use Rattle.std.proofs.lemmas.List.{length-map}
-use Rattle.rooted_graph.specs.Rooted.{Rooted}
 use Rattle.rooted_graph.specs.BreadthOrder.{number_of, IsBreadthOrder}
 use Rattle.rooted_graph.specs.InOrder.{renumbered, counting_up}
 use Rattle.rooted_graph.proofs.Ordered.{counts_up}
 use Rattle.dictionary.specs.declared.entries.Entry.{Entry}
 use Rattle.frame_content.specs.Frames.{Row, Frame, row_at}
 use Rattle.canonical_file.specs.Ordered.{row_links, frame_graph, row_in, ordered, IsInOrder}
-use Rattle.canonical_file.specs.Written.{begun, after_frames, canonical_file}
-use Rattle.canonical_file.specs.Contents.{Content, IsCanonical}
+use Rattle.canonical_file.specs.Written.{begun, after_frames}
+use Rattle.canonical_file.specs.Contents.{Content}
 use Rattle.canonical_file.specs.Splices.{row_under, frame_under, as_used, frames_in}
 use Rattle.canonical_file.proofs.Graphs.{graph-ordered}
 use Rattle.canonical_file.proofs.OneOrder.{same_in_orders}

@@ -10,13 +10,13 @@ use Rattle.std.proofs.lemmas.List.Folds.{find-append}
 use Rattle.std.proofs.lemmas.Option.{none-some}
 use Rattle.dictionary.specs.declared.entries.Entry.{Entry}
 use Rattle.dictionary.specs.Dictionary.{entry_of, class_named, IsDictionary}
-use Rattle.dictionary.specs.Same.{IsRead, AreRead, IsSameEntry, same_entries}
+use Rattle.dictionary.specs.Same.{IsRead, AreRead, same_entries}
 use Rattle.dictionary.specs.Verdicts.{IsNew}
 use Rattle.dictionary.proofs.SameLemmas.{entries-Decides}
 use Rattle.dictionary.proofs.KeptLemmas.{IsDictionary-new}
 use Rattle.file_grammar.specs.Kind.{kind_named, is_frame_kind}
 use Rattle.frame_content.specs.Labels.{printed_entry}
-use Rattle.frame_content.specs.Frames.{Frame, label_at}
+use Rattle.frame_content.specs.Frames.{Frame}
 use Rattle.canonical_file.specs.declared.closing.Closing.{Closing}
 use Rattle.canonical_file.specs.Records.{Record, records_of, end_record, added_by, with_entry, with_record, entries_after}
 use Rattle.canonical_file.specs.Written.{Written, after_frame, after_frames}
@@ -27,7 +27,7 @@ use Rattle.canonical_file.proofs.UsedFrames.{AgreeAll}
 use Rattle.canonical_laws.specs.Writable.{IsWritableEntry, IsWritableFrame, kind_at}
 use Rattle.canonical_laws.specs.Spliced.{IsWritableSomewhere}
 use Rattle.canonical_laws.proofs.SourceEntries.{are-read}
-use Rattle.canonical_laws.proofs.AgreeingEntries.{IsIn, AreIn, agrees-in, all-push, added-all, added-in}
+use Rattle.canonical_laws.proofs.AgreeingEntries.{IsIn, AreIn, agrees-in, all-push, added-in}
 use Rattle.canonical_laws.proofs.WrittenRecords.{Agrees}
 use Rattle.canonical_laws.proofs.RowsFollow.{records_from, all-records}
 use Rattle.canonical_laws.proofs.FrameEntries.{IsOfFrame, row-of_frame, found-all}
