@@ -1,7 +1,7 @@
 -- What a contents table is built from, of frames that can be written: the names of each kind are short, none of them is
 -- there twice, and all places are within the bytes of the frames.
-use Rattle.std.proofs.Common.{◌≡◌, ℕ, zero, suc, ◌+◌, ◌-◌, ◌<◌, ◌≤◌, Bool, true, false, cond, Option, Some, None, List}
-use Rattle.std.proofs.Common.{[], ◌∷◌, ◌++◌, length, fold, refl, sym, ap, ◌∙◌, subst, arith, add-zero, length-append}
+use Rattle.std.proofs.Common.{◌≡◌, ℕ, ◌+◌, ◌<◌, ◌≤◌, true, false, cond, Option, Some, None, List}
+use Rattle.std.proofs.Common.{[], ◌∷◌, ◌++◌, length, fold, refl, sym, ap, ◌∙◌, subst, arith, length-append}
 use Rattle.std.specs.Prelude.{find}
 use Rattle.std.specs.List.{AllByRecursion, list_any}
 use Rattle.std.specs.Option.{option_map_or}
@@ -15,10 +15,10 @@ use Rattle.contents_table.specs.declared.names.Listed.{Listed}
 use Rattle.contents_table.specs.Channels.{header_of, named_channels}
 use Rattle.contents_table.specs.Built.{Built, nothing_built, listed_of, with_listed, with_frame, is_in, with_found}
 use Rattle.contents_table.specs.Built.{with_name, last_frame, with_channel, place_in, position_in, place_of, with_named}
-use Rattle.contents_table.specs.Built.{with_channels, with_frame_at, AreNames}
+use Rattle.contents_table.specs.Built.{with_channels, AreNames}
 use Rattle.contents_table.proofs.Adding.{names-kept, names-more}
 use Rattle.canonical_file.specs.Records.{record_places}
-use Rattle.canonical_file.specs.Written.{Written, begun, frame_pieces, after_frame, after_frames}
+use Rattle.canonical_file.specs.Written.{Written, frame_pieces, after_frame, after_frames}
 use Rattle.canonical_laws.specs.Writable.{IsWritableFrame}
 use Rattle.canonical_laws.proofs.ChannelRows.{IsChannel, HasChannels, has-channels}
 use Rattle.canonical_laws.proofs.RowPlaces.{place-within}

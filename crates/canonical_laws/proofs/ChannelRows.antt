@@ -1,5 +1,5 @@
 -- The FrameH and the channels of a frame that can be written are among its rows, and its channels have short names.
-use Rattle.std.proofs.Common.{◌≡◌, ℕ, zero, suc, ◌<◌, ◌≤◌, ◌⊎◌, inl, inr, Bool, true, false, cond, Option, Some, None}
+use Rattle.std.proofs.Common.{◌≡◌, ℕ, zero, suc, ◌<◌, ◌≤◌, ◌⊎◌, inl, inr, true, false, cond, Option, Some, None}
 use Rattle.std.proofs.Common.{List, [], ◌∷◌, length, map, take, drop, All, refl, sym, ap, ◌∙◌, subst}
 use Rattle.std.specs.Prelude.{filter_map, slice_get, option_and_then}
 use Rattle.std.specs.List.{AllByRecursion, AllZip, cons_option}

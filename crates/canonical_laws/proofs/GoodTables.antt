@@ -1,6 +1,6 @@
 -- The contents table of a canonical file is good, where its record is written.
 use Rattle.std.proofs.Common.{◌≡◌, ℕ, zero, suc, ◌+◌, ◌<◌, ◌≤◌, Bool, true, false, cond, Option, Some, None, List, []}
-use Rattle.std.proofs.Common.{◌∷◌, inl, inr, length, refl, sym, ap, ◌∙◌, subst, arith, eq-eqb, lit<}
+use Rattle.std.proofs.Common.{inl, inr, length, refl, sym, ap, ◌∙◌, subst, arith, eq-eqb, lit<}
 use Rattle.std.specs.Prelude.{option_and_then, unwrap_or, is_some, IfSome}
 use Rattle.std.specs.List.{last_or}
 use Rattle.std.proofs.lemmas.Bool.{cond-true, and_parts, leb-true, false≢true}

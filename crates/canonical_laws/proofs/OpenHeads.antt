@@ -1,6 +1,6 @@
 -- No part of a canonical head from its beginning on is well-formed, since the end of the file does not stand in it; nor
 -- is a part of a canonical file that ends before the file does.
-use Rattle.std.proofs.Common.{◌≡◌, ℕ, ◌≤◌, true, false, List, [], ◌∷◌, ◌++◌, length, take, refl, sym, ap, ◌∙◌}
+use Rattle.std.proofs.Common.{◌≡◌, ℕ, ◌≤◌, true, false, List, [], ◌∷◌, ◌++◌, length, take, sym, ap, ◌∙◌}
 use Rattle.std.proofs.Common.{subst, arith, append-nil, length-append, length-take}
 use Rattle.std.proofs.lemmas.List.{take-take, take_all}
 use Rattle.scalar_types.specs.declared.Order.{Order}

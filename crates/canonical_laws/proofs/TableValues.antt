@@ -1,5 +1,5 @@
 -- The values of a canonical contents table fit its fields, where they are few and small.
-use Rattle.std.proofs.Common.{◌≡◌, ◌≢◌, ℕ, zero, suc, ◌+◌, ◌^◌, ◌<◌, ◌≤◌, Bool, true, false, Some, List, [], ◌∷◌, ◌++◌}
+use Rattle.std.proofs.Common.{◌≡◌, ◌≢◌, ℕ, zero, suc, ◌+◌, ◌<◌, ◌≤◌, Bool, true, false, Some, List, [], ◌∷◌}
 use Rattle.std.proofs.Common.{length, map, drop, flat_map, replicate, All, refl, sym, ◌∙◌, subst, arith, lit<}
 use Rattle.std.specs.Prelude.{slice_get}
 use Rattle.std.specs.List.{AllByRecursion, AllZip}
@@ -20,7 +20,6 @@ use Rattle.layout_plan.proofs.ReadingLemmas.{slice_get-drop, element-within}
 use Rattle.file_grammar.specs.Structure.{file_limit}
 use Rattle.frame_content.specs.Labels.{null_link}
 use Rattle.record_writer.specs.Fit.{FitsWidth, PairFitsWidth, IsShortText, FitsSingle, FitsListed, FitsField, Fits}
-use Rattle.contents_table.specs.declared.kind.Kind.{Kind}
 use Rattle.contents_table.specs.declared.fit.TableLayout.{TableLayout}
 use Rattle.contents_table.specs.declared.names.Listed.{Listed}
 use Rattle.contents_table.specs.declared.writing.Tells.{Tells}
