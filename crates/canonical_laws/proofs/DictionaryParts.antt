@@ -1,5 +1,6 @@
 -- Dictionaries whose entries stand in another order, and the part of a dictionary that a closing is.
-use Rattle.std.proofs.Common.{◌≡◌, ℕ, Bool, true, false, cond, eqb, find, Option, Some, None, IfSome, IsSomeAnd, List, [], ◌∷◌}
+use Rattle.std.proofs.Common.{◌≡◌, ℕ, Bool, true, false, cond, eqb, find, Option, Some}
+use Rattle.std.proofs.Common.{None, IfSome, IsSomeAnd, List, [], ◌∷◌}
 use Rattle.std.proofs.Common.{◌++◌, refl, sym, ap, ◌∙◌, subst, eq-eqb}
 use Rattle.std.specs.List.{AllByRecursion}
 use Rattle.std.specs.Option.{option_map, option_or, option_to_list}
@@ -93,6 +94,7 @@ dictionary-moved xs ys e new sound =
 
 -- ---- the entries of a closing
 
+-- the dictionary of a closing holds the entries of it
 pub closing-in : (dictionary : List Entry) (c : Closing) → IsWritableClosing dictionary c
     → AreIn dictionary (closing_entries c)
 closing-in dictionary c w = by c.table w.table
@@ -106,6 +108,7 @@ closing-in dictionary c w = by c.table w.table
 abbrev pub IsOfClosing : Entry → Type 0
 IsOfClosing e = is_frame_kind (kind_named e.name) ≡ false
 
+-- they are of no record of a frame
 pub closing-kinds : (dictionary : List Entry) (c : Closing) → IsWritableClosing dictionary c
     → AllByRecursion IsOfClosing (closing_entries c)
 closing-kinds dictionary c w = by c.table w.table
@@ -151,6 +154,7 @@ pub record IsClosingPart (c : Closing) : Type 0 where
   pub end : IsIn (closing_entries c) c.end
   pub table : IfSome c.table (IsIn (closing_entries c))
 
+-- they are a dictionary themselves, which holds both
 pub closing-part : (dictionary : List Entry) (c : Closing) → IsDictionary dictionary → IsWritableClosing dictionary c
     → IsClosingPart c
 closing-part dictionary c sound w = by c.table w.table

@@ -24,7 +24,8 @@ use Rattle.canonical_file.proofs.UsedEntries.{record_under, IsAlike, Agree, clas
 use Rattle.canonical_file.proofs.UsedEntries.{entries-front}
 use Rattle.canonical_file.proofs.UsedFrames.{AgreeAll, frames-front}
 use Rattle.canonical_laws.specs.Writable.{IsWritable, IsLabel, IsRow, record_at, kind_at, IsRowOfKind, IsWritableRow}
-use Rattle.canonical_laws.specs.Writable.{IsWritableEnd, IsWritableFrame, size_of_record, number_if, rows_named, as_read}
+use Rattle.canonical_laws.specs.Writable.{IsWritableEnd, IsWritableFrame, size_of_record, number_if}
+use Rattle.canonical_laws.specs.Writable.{rows_named, as_read}
 use Rattle.canonical_laws.proofs.LikeEntries.{with_own, size-alike, writable-alike, label_with, label-alike}
 use Rattle.canonical_laws.proofs.RowsFollow.{records_from}
 use Rattle.canonical_laws.proofs.FrameEntries.{found-all}
@@ -68,6 +69,7 @@ under-records entries used rest (r ∷ rs) split agree =
       under-records (with_record entries r) used rest rs split agree.1,
     )
 
+-- each record of the frames stands under the entries that all of them use
 pub under-frames : (w : Written) (used rest : List Entry) (fs : List Frame)
     → used ≡ (after_frames w fs).entries ++ rest → AgreeAll w fs
     → AllByRecursion (λ (f : Frame). AreUnder used (records_of f)) fs
@@ -133,6 +135,7 @@ link-same used f = λ i link. by link i
     by None = refl
     by (Some k) = λ i. record { class = class-row used f.rows k i; instance = instance-same used f k i }
 
+-- a row of the frame under entries is the row under them
 pub row-is : (used : List Entry) (f : Frame) (k : ℕ) → k < length f.rows
     → row_at (frame_under used f) k ≡ row_under used (row_at f k)
 row-is used f k less = get_or-map (row_under used) f.rows k no_row no_row less

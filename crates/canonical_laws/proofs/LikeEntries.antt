@@ -58,6 +58,7 @@ layout-bare : (es : List Element) → layout_of (map bare_element es) ≡ layout
 unfolding layout_of
 layout-bare es = fields-bare [] es
 
+-- the layouts of both are the same
 pub layout-alike : (a b : Entry) → IsAlike a b → layout_of a.elements ≡ layout_of b.elements
 layout-alike a b alike =
     sym (layout-bare a.elements) ∙ ap (λ (e : Entry). layout_of e.elements) alike ∙ layout-bare b.elements
@@ -77,6 +78,7 @@ bytes-alike e r alike =
     let fields = fields-alike e r.entry alike in
     λ i. structure_bytes (alike i).class r.instance (body_bytes (fields i) r.values)
 
+-- the record with an entry that is like its own has as many bytes
 pub size-alike : (e : Entry) (r : Record) → IsAlike e r.entry → size_of_record (with_own e r) ≡ size_of_record r
 size-alike e r alike = ap length (bytes-alike e r alike)
 

@@ -98,11 +98,13 @@ all-somewhere : (os : List Frame) → AllByRecursion IsOrderedSource os → AllB
 all-somewhere [] all = tt
 all-somewhere (o ∷ os) all = (all.0.somewhere, all-somewhere os all.1)
 
+-- the frames of a beginning of a file can be written, each by a dictionary of its own
 pub frames_somewhere : FramesOfFilesAreWritableSomewhere
 frames_somewhere file order items last ordered bytes begins orders =
     let fs : List Frame = (content_of order items last).frames in
     all-somewhere ordered (in-orders fs ordered (begun-sources file order items last bytes begins) orders)
 
+-- the frames of a first file can be spliced with its closing
 pub first_spliced : FirstFilesAreSpliced
 first_spliced file c front bytes has orders =
     let last : Before = has.last in
@@ -121,6 +123,7 @@ first_spliced file c front bytes has orders =
       back_agrees = tt;
     }
 
+-- and so can more frames that do not clash
 pub more_spliced : MoreFramesAreSpliced
 more_spliced closing front back more s all none =
     let Free : Written → Type 0 = λ w. NoneClashes (Some closing) w more in
@@ -186,6 +189,7 @@ content-is closing front back are few limit =
       is = ap (λ frames. record { closing = closing; frames = frames }) (sym are.read) ∙ sym back_is.content_is;
     }
 
+-- the canonical file of a splice has the splice for its content
 pub splices_keep : SplicesKeepContents
 splices_keep file files first others c bytes these those has have s canonical short =
     let own : bytes ≡ canonical_file c.closing c.frames =
@@ -197,6 +201,7 @@ splices_keep file files first others c bytes these those has have s canonical sh
     (content-is first.closing s.front s.back (of-files file files first others c these those has have s) s.few
     (subst Short s.is (subst (λ xs. length xs ≤ file_limit) own short))))
 
+-- no part of it that ends before it is well-formed
 pub no_part_of_a_splice : NoPartOfASpliceIsWhole
 no_part_of_a_splice file files first others c bytes n these those has have s canonical short less part =
     let is = splices_keep file files first others c bytes these those has have s canonical short in

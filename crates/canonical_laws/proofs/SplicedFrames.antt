@@ -1,7 +1,8 @@
--- Frames of several files, none of which clashes, can be written by one dictionary: that of the entries used and of those
--- of the closing.
+-- Frames of several files, none of which clashes, can be written by one dictionary: that of the entries used and of
+-- those of the closing.
 use Rattle.std.proofs.Common.{◌≡◌, ◌<◌, ◌≤◌, false, true≢false, eqb, Option, Some, None, IfSome, IsSomeAnd}
-use Rattle.std.proofs.Common.{List, [], ◌∷◌, ◌++◌, map, find, length, take, flat_map, refl, sym, ap, ◌∙◌, subst, append-nil}
+use Rattle.std.proofs.Common.{List, [], ◌∷◌, ◌++◌, map, find, length, take, flat_map, refl}
+use Rattle.std.proofs.Common.{sym, ap, ◌∙◌, subst, append-nil}
 use Rattle.std.specs.List.{AllByRecursion}
 use Rattle.std.proofs.lemmas.List.{length-map}
 use Rattle.std.specs.Option.{option_map, option_or}
@@ -121,6 +122,7 @@ pub record AreJoined (c : Closing) (fs : List Frame) : Type 0 where
   pub somewhere_are : AllByRecursion IsWritableSomewhere fs
   pub under : AllByRecursion (λ (f : Frame). AreUnder (after_frames begun fs).entries (records_of f)) fs
 
+-- frames that are spliced agree, and the entries that they use are usable
 pub joined : (c : Closing) (front back : List Frame) → AreSpliced c front back → AreJoined c (front ++ back)
 joined c front back s =
     let part = closing-part s.dictionary c s.sound s.closing_is in
@@ -140,6 +142,7 @@ joined c front back s =
       under = under-frames begun used [] (front ++ back) (sym (append-nil used)) uses.0;
     }
 
+-- they can be written by one dictionary, under which the same is written
 pub together : SplicedFramesAreWrittenTogether
 together c front back s =
     let fs : List Frame = front ++ back in
@@ -163,6 +166,7 @@ as-many : (fs : List Frame) → length fs ≤ frames_limit → length (as_used f
 as-many fs few =
     subst (λ n. n ≤ frames_limit) (sym (length-map fs (frame_under (after_frames begun fs).entries))) few
 
+-- no part of their head is well-formed
 pub no_part_of_a_spliced_head : NoPartOfASplicedHeadIsWhole
 no_part_of_a_spliced_head c front back n s few limit whole =
     let fs : List Frame = front ++ back in
@@ -171,6 +175,7 @@ no_part_of_a_spliced_head c front back n s few limit whole =
     (subst (λ xs. length xs ≤ file_limit) (sym all.head_is) limit)
     (subst (λ xs. WellFormed (take n xs)) (sym all.head_is) whole)
 
+-- no part of their file that ends before it is
 pub no_part_of_a_spliced_file : NoPartOfASplicedFileIsWhole
 no_part_of_a_spliced_file c front back n s few limit less whole =
     let fs : List Frame = front ++ back in
@@ -180,6 +185,7 @@ no_part_of_a_spliced_file c front back n s few limit less whole =
     (subst (λ xs. n < length xs) (sym all.file_is) less)
     (subst (λ xs. WellFormed (take n xs)) (sym all.file_is) whole)
 
+-- their file is well-formed and reads back as they are under the entries used
 pub spliced_back : SplicedFilesAreReadBack
 spliced_back c front back s few limit =
     let fs : List Frame = front ++ back in

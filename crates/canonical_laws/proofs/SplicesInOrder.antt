@@ -84,6 +84,7 @@ side-by-side : (used : List Entry) (os : List Frame)
 side-by-side used [] all = tt
 side-by-side used (o ∷ os) all = (all.0, side-by-side used os all.1)
 
+-- what is written of the frames of a splice is its canonical file
 pub splices_canonical : SplicesAreCanonical
 splices_canonical first others c s =
     let fs : List Frame = s.front ++ s.back in

@@ -1,6 +1,7 @@
--- The entries that frames of several files use: none clashes with those used before it, so with those of the closing they
--- are a dictionary.
-use Rattle.std.proofs.Common.{◌≡◌, ℕ, ◌⊎◌, inl, inr, Bool, true, false, not, cond, is_some, eqb, Option, Some, None, IfSome, List, []}
+-- The entries that frames of several files use: none clashes with those used before it, so with those of the closing
+-- they are a dictionary.
+use Rattle.std.proofs.Common.{◌≡◌, ℕ, ◌⊎◌, inl, inr, Bool, true, false, not, cond, is_some, eqb}
+use Rattle.std.proofs.Common.{Option, Some, None, IfSome, List, []}
 use Rattle.std.proofs.Common.{◌∷◌, ◌++◌, refl, sym, ap, ◌∙◌, subst, arith}
 use Rattle.std.specs.List.{AllByRecursion}
 use Rattle.std.specs.Option.{option_map_or, option_or}
@@ -18,7 +19,8 @@ use Rattle.file_grammar.specs.Kind.{kind_named, is_frame_kind}
 use Rattle.frame_content.specs.Labels.{printed_entry}
 use Rattle.frame_content.specs.Frames.{Frame}
 use Rattle.canonical_file.specs.declared.closing.Closing.{Closing}
-use Rattle.canonical_file.specs.Records.{Record, records_of, end_record, added_by, with_entry, with_record, entries_after}
+use Rattle.canonical_file.specs.Records.{Record, records_of, end_record, added_by}
+use Rattle.canonical_file.specs.Records.{with_entry, with_record, entries_after}
 use Rattle.canonical_file.specs.Written.{Written, after_frame, after_frames}
 use Rattle.canonical_file.specs.Splices.{closing_entries, clashes, clash_from, NoneClashes}
 use Rattle.canonical_file.proofs.Bare.{same-bare}
@@ -48,6 +50,7 @@ usable-read e is = All-from_recursion IsRead e.elements (are-read e.elements is.
 abbrev pub IsUsableRecord : Record → Type 0
 IsUsableRecord r = IsUsable r.entry
 
+-- each record of a frame that can be written has such an entry
 pub records-usable : (dictionary : List Entry) (f : Frame) → IsWritableFrame dictionary f
     → AllByRecursion IsUsableRecord (records_of f)
 records-usable dictionary f w =
@@ -76,6 +79,7 @@ pub record IsUsed (more used : List Entry) (e : Entry) : Type 0 where
   pub alike : IfSome (entry_of used e.class) (λ old. IsAlike old e)
   pub then_used : AreUsable more (with_entry used e)
 
+-- an entry that does not clash is used
 pub use-entry : (more used : List Entry) (e : Entry) → AllByRecursion IsOfClosing more → AreUsable more used
     → IsUsable e → clashes (used ++ more) e ≡ false → IsUsed more used e
 use-entry more used e closings are is none = by (entry_of used e.class) refl
@@ -171,6 +175,7 @@ use-records c used (r ∷ rs) closings are all none =
         let rest = later one.then_used none in
         ((one.alike, rest.0), rest.1)
 
+-- frames that do not clash agree with what is used before them, and all that is used is usable
 pub use-frames : (c : Closing) (w : Written) (fs : List Frame) → AllByRecursion IsOfClosing (closing_entries c)
     → AreUsable (closing_entries c) w.entries → AllByRecursion IsWritableSomewhere fs → NoneClashes (Some c) w fs
     → AgreeAll w fs × AreUsable (closing_entries c) (after_frames w fs).entries
@@ -183,6 +188,7 @@ use-frames c w (f ∷ fs) closings are all none =
 
 -- ---- frames of one file
 
+-- what holds of all of two lists holds of all of both
 pub all-append : {X : Type 0} (P : X → Type 0) (xs ys : List X) → AllByRecursion P xs → AllByRecursion P ys
     → AllByRecursion P (xs ++ ys)
 all-append P [] ys left right = right
@@ -229,6 +235,7 @@ frames-free dictionary c w (f ∷ fs) sound closing own all =
     (records-in dictionary f all.0) in
     (one.0, frames-free dictionary c (after_frame w f) fs sound closing one.1 all.1)
 
+-- frames that do not clash, and more after them that do not, do not clash
 pub none-append : (closing : Option Closing) (w : Written) (front back : List Frame) → NoneClashes closing w front
     → NoneClashes closing (after_frames w front) back → NoneClashes closing w (front ++ back)
 none-append closing w [] back left right = right
