@@ -1,6 +1,6 @@
 -- How many bytes values are, whether they fit their fields or not.
-use Rattle.std.proofs.Common.{◌≡◌, ℕ, ◌+◌, ◌*◌, List, [], ◌∷◌, ◌++◌, length, flat_map, sum_by, refl, sym, ap, ◌∙◌}
-use Rattle.std.proofs.Common.{arith, length-append}
+use Rattle.std.proofs.Common.{◌≡◌, ℕ, ◌+◌, ◌*◌, List, [], ◌∷◌, ◌++◌, length, flat_map, sum_by, refl, sym, ap, ◌∙◌, arith}
+use Rattle.std.proofs.Common.{length-append}
 use Rattle.std.proofs.Math.Nat.{suc-mul, zero-mul}
 use Rattle.std.proofs.lemmas.List.Sums.{sum_by-cons}
 use Rattle.scalar_types.specs.declared.Order.TheVariants.{Little}
@@ -31,7 +31,6 @@ items-length f n each [] = sym (zero-mul n)
 items-length f n each (x ∷ xs) =
     omega (arith, length-append (f x) (flat_map f xs), each x, items-length f n each xs, suc-mul (length xs) n)
 
--- a text is as long as it says
 text-length : (text : List ℕ) → length (text_bytes text) ≡ text_length text
 text-length text =
     omega (
@@ -41,7 +40,6 @@ text-length text =
       bytes_of-length Little Two (length text + 1),
     )
 
--- so are texts
 texts-length : (texts : List (List ℕ)) → length (flat_map text_bytes texts) ≡ sum_by text_length texts
 texts-length [] = refl
 texts-length (text ∷ texts) =
@@ -53,7 +51,6 @@ texts-length (text ∷ texts) =
       sum_by-cons text_length text texts,
     )
 
--- a pair is two numbers long
 pair-length : (width : Width) (pair : ℕ × ℕ) → length (pair_bytes width pair) ≡ 2 * size_of width
 pair-length width pair =
     omega (
@@ -63,7 +60,6 @@ pair-length width pair =
       bytes_of-length Little width pair.1,
     )
 
--- a link has six bytes
 link-length : (link : StructLink) → length (link_bytes link) ≡ 6
 link-length link =
     omega (
@@ -73,7 +69,6 @@ link-length link =
       bytes_of-length Little Four link.instance,
     )
 
--- a value is as long as it says
 value-length : (form : Form) (v : Value) → length (value_bytes form v) ≡ value_length form v
 value-length (Number width) (value.Num n) = bytes_of-length Little width n
 value-length (Number width) (value.Bytes xs) =
@@ -88,7 +83,6 @@ value-length Link (value.Link link) = link-length link
 value-length Link (value.Links xs) = items-length link_bytes 6 link-length xs
 value-length form v = refl
 
--- so are values one after another
 body-length : (fields : List Field) (values : List Value)
     → length (body_bytes fields values) ≡ values_length fields values
 body-length (f ∷ fs) (v ∷ vs) =

@@ -39,13 +39,11 @@ pub record IsBuilt (size : ℕ) (built : Built) : Type 0 where
 
 -- ---- lists
 
--- what holds of all of a list and of one more holds of all
 all-push : {X : Type 0} (P : X → Type 0) (xs : List X) (x : X) → AllByRecursion P xs → P x
     → AllByRecursion P (xs ++ x ∷ [])
 all-push P [] x all one = (one, tt)
 all-push P (y ∷ xs) x all one = (all.0, all-push P xs x all.1 one)
 
--- what follows for each follows for all
 all-weaker : {X : Type 0} (P Q : X → Type 0) (xs : List X) → ((x : X) → P x → Q x) → AllByRecursion P xs
     → AllByRecursion Q xs
 all-weaker P Q [] weaker all = tt
@@ -53,7 +51,6 @@ all-weaker P Q (x ∷ xs) weaker all = (weaker x all.0, all-weaker P Q xs weaker
 
 -- ---- one more channel of a name
 
--- a name with one more channel has all of them within the bytes
 found-within : (size : ℕ) (found : Found) (l : Listed) → found.at ≤ size → IsListedWithin size l
     → IsListedWithin size (with_found found l)
 found-within size found l here all =
@@ -63,7 +60,6 @@ found-within size found l here all =
       | false ↦ all-push (IsFoundWithin size) l.found found all here
     ]
 
--- so have all names with one more channel
 name-within : (size : ℕ) (name : List ℕ) (found : Found) (listed : List Listed) → found.at ≤ size
     → AllByRecursion (IsListedWithin size) listed → AllByRecursion (IsListedWithin size) (with_name name found listed)
 unfolding with_name
@@ -71,9 +67,8 @@ name-within size name found [] here all = ((here, tt), tt)
 name-within size name found (l ∷ more) here all =
     let added = found-within size found l here all.0 in
     let later = name-within size name found more here all.1 in
-    let rest : List Listed = with_name name found more in
     elim (bytes_eq name l.name)
-    as (λ b. AllByRecursion (IsListedWithin size) (cond b (with_found found l ∷ more) (l ∷ rest))) [
+    as (λ b. AllByRecursion (IsListedWithin size) (cond b (with_found found l ∷ more) (l ∷ with_name name found more))) [
       | true ↦ (added, all.1)
       | false ↦ (all.0, later)
     ]
@@ -81,8 +76,7 @@ name-within size name found (l ∷ more) here all =
 -- ---- one more channel of a kind
 
 -- the places of the frames stay
-heads-listed : (built : Built) (kind : Kind) (listed : List Listed)
-    → (with_listed built kind listed).heads ≡ built.heads
+heads-listed : (built : Built) (kind : Kind) (listed : List Listed) → (with_listed built kind listed).heads ≡ built.heads
 heads-listed built Adc listed = refl
 heads-listed built Proc listed = refl
 heads-listed built Sim listed = refl
@@ -90,8 +84,7 @@ heads-listed built Ser listed = refl
 
 -- what holds of the new list and of the old ones holds of each kind
 listed-each : (P : List Listed → Type 0) (built : Built) (kind : Kind) (listed : List Listed) → P listed
-    → ((other : Kind) → P (listed_of built other)) → (other : Kind)
-    → P (listed_of (with_listed built kind listed) other)
+    → ((other : Kind) → P (listed_of built other)) → (other : Kind) → P (listed_of (with_listed built kind listed) other)
 listed-each P built Adc listed new old Adc = new
 listed-each P built Adc listed new old Proc = old Proc
 listed-each P built Adc listed new old Sim = old Sim
@@ -114,7 +107,6 @@ record HasFrame (size : ℕ) (built : Built) : Type 0 where
   pub some : 0 < length built.heads
   pub is : IsBuilt size built
 
--- one more channel of the last frame is kept so
 channel-built : (size : ℕ) (kind : Kind) (name : List ℕ) (at : ℕ) (built : Built) → length name ≤ 65534 → at ≤ size
     → HasFrame size built → HasFrame size (with_channel kind name at built)
 channel-built size kind name at built short here has =
@@ -139,7 +131,6 @@ channel-built size kind name at built short here has =
 
 -- ---- one more frame
 
--- so are all channels of a kind
 channels-built : (size : ℕ) (f : Frame) (places : List ℕ) (kind : Kind) (channels : List (List ℕ × ℕ)) (built : Built)
     → ((k : ℕ) → place_of places k ≤ size) → AllByRecursion (IsChannel f) channels → HasFrame size built
     → HasFrame size (fold (with_named kind places) built channels)
@@ -148,7 +139,6 @@ channels-built size f places kind (c ∷ cs) built within all has =
     channels-built size f places kind cs (with_named kind places built c) within all.1
     (channel-built size kind c.0 (place_of places c.1) built all.0.short (within c.1) has)
 
--- and those of all kinds
 kinds-built : (size : ℕ) (f : Frame) (places : List ℕ) (kinds : List Kind) (built : Built)
     → ((k : ℕ) → place_of places k ≤ size) → HasChannels f → HasFrame size built
     → HasFrame size (fold (with_channels places f) built kinds)
@@ -157,7 +147,6 @@ kinds-built size f places (kind ∷ kinds) built within all has =
     kinds-built size f places kinds (with_channels places f built kind) within all
     (channels-built size f places kind (named_channels f kind) built within (all kind) has)
 
--- the place of the FrameH is within the bytes
 head-within : (size : ℕ) (places : List ℕ) (header : Option ℕ) → ((k : ℕ) → place_of places k ≤ size)
     → option_map_or (place_of places) header 0 ≤ size
 head-within size places None within = omega arith
@@ -171,15 +160,13 @@ listed-framed P built at all Proc = all Proc
 listed-framed P built at all Sim = all Sim
 listed-framed P built at all Ser = all Ser
 
--- what is within some bytes is within more
 within-more : (size more : ℕ) (l : Listed) → size ≤ more → IsListedWithin size l → IsListedWithin more l
 within-more size more l grown all =
     all-weaker (IsFoundWithin size) (IsFoundWithin more) l.found (λ f low. omega (arith, low, grown)) all
 
--- one more frame is kept so, before its channels are listed
-frame-added : (size more at : ℕ) (built : Built) → size ≤ more → at ≤ more → IsBuilt size built
+started : (size more at : ℕ) (built : Built) → size ≤ more → at ≤ more → IsBuilt size built
     → HasFrame more (with_frame at built)
-frame-added size more at built grown here is =
+started size more at built grown here is =
     let one : length (built.heads ++ at ∷ []) ≡ length built.heads + 1 = length-append built.heads (at ∷ []) in
     let low : length built.heads ≤ length (built.heads ++ at ∷ []) = omega (arith, one) in
     record {
@@ -198,7 +185,6 @@ frame-added size more at built grown here is =
       };
     }
 
--- one more frame with its channels is kept so
 frame-built : (dictionary : List Entry) (w : Written) (f : Frame) → IsWritableFrame dictionary f
     → IsBuilt w.size w.built → IsBuilt (after_frame w f).size (after_frame w f).built
 frame-built dictionary w f writable is =
@@ -208,11 +194,10 @@ frame-built dictionary w f writable is =
     let at : ℕ = option_map_or (place_of places) (header_of f) 0 in
     (kinds-built size f places (Adc ∷ Proc ∷ Sim ∷ Ser ∷ []) (with_frame at w.built) within
     (has-channels dictionary f writable)
-    (frame-added w.size size at w.built (omega arith) (head-within size places (header_of f) within) is)).is
+    (started w.size size at w.built (omega arith) (head-within size places (header_of f) within) is)).is
 
 -- ---- all frames
 
--- What is built of frames one after another is kept so.
 pub frames-built : (dictionary : List Entry) (w : Written) (fs : List Frame)
     → AllByRecursion (IsWritableFrame dictionary) fs → IsBuilt w.size w.built
     → IsBuilt (after_frames w fs).size (after_frames w fs).built
@@ -220,11 +205,9 @@ frames-built dictionary w [] all is = is
 frames-built dictionary w (f ∷ fs) all is =
     frames-built dictionary (after_frame w f) fs all.1 (frame-built dictionary w f all.0 is)
 
--- no names are kept so
 none-named : AreNames 0 []
 none-named = record { names = λ k d within. absurd (omega (arith, within)); distinct = refl }
 
--- nothing is kept so
 pub nothing-built : (size : ℕ) → IsBuilt size nothing_built
 nothing-built size = record { names = names; heads = tt; places = places }
   where
@@ -242,7 +225,6 @@ nothing-built size = record { names = names; heads = tt; places = places }
 
 -- ---- how many frames there are
 
--- channels of a kind leave the frames as they are
 heads-channels : (kind : Kind) (places : List ℕ) (channels : List (List ℕ × ℕ)) (built : Built)
     → (fold (with_named kind places) built channels).heads ≡ built.heads
 heads-channels kind places [] built = refl
@@ -251,7 +233,6 @@ heads-channels kind places (c ∷ cs) built =
     heads-channels kind places cs (with_named kind places built c)
     ∙ heads-listed built kind (with_name c.0 found (listed_of built kind))
 
--- so do those of all kinds
 heads-kinds : (f : Frame) (places : List ℕ) (kinds : List Kind) (built : Built)
     → (fold (with_channels places f) built kinds).heads ≡ built.heads
 heads-kinds f places [] built = refl
@@ -273,7 +254,6 @@ heads-counted w (f ∷ fs) same =
 
 -- ---- positions
 
--- the place of a name in a frame is within the bytes
 place-in_within : (size frame : ℕ) (found : List Found) → AllByRecursion (IsFoundWithin size) found
     → place_in frame found ≤ size
 place-in_within size frame [] all = omega arith

@@ -27,9 +27,8 @@ use Rattle.record_writer.specs.Fit.{IsShortText, FitsField}
 use Rattle.frame_content.specs.Labels.{Label}
 use Rattle.frame_content.specs.Frames.{Row, Frame, no_row, row_at, label_at}
 use Rattle.contents_table.specs.declared.kind.Kind.{Kind}
-use Rattle.contents_table.specs.Channels.{structure_of, next_field, name_field, link_number, end_of_link, if_named}
-use Rattle.contents_table.specs.Channels.{target, head_field, head, is_frame_header, header_of, upper, first_channel}
-use Rattle.contents_table.specs.Channels.{next_channel}
+use Rattle.contents_table.specs.Channels.{structure_of, next_field, name_field, link_number, end_of_link, if_named, target}
+use Rattle.contents_table.specs.Channels.{head_field, head, is_frame_header, header_of, upper, first_channel, next_channel}
 use Rattle.contents_table.specs.Channels.{channels_from, channels, text_of, name_of, named_channel, named_channels}
 use Rattle.canonical_file.specs.Ordered.{new_link}
 use Rattle.canonical_laws.specs.Writable.{IsWritableFrame}
@@ -40,7 +39,6 @@ use Rattle.canonical_laws.specs.Writable.{IsWritableFrame}
 abbrev LinksLead : Frame → Type 0
 LinksLead f = (k : ℕ) → k < length f.rows → All (IsWithin (length f.rows)) (row_at f k).links
 
--- a link of any record leads to a row
 link-leads : (f : Frame) (n j m : ℕ) → LinksLead f → slice_get (row_at f n).links j ≡ Some (Some m)
     → m < length f.rows
 link-leads f n j m lead is = by (cases_lt n (length f.rows))
@@ -56,7 +54,6 @@ link-leads f n j m lead is = by (cases_lt n (length f.rows))
         absurd (none-some (Some m)
         (sym (ap (λ (r : Row). slice_get r.links j) (get_or_past f.rows n no_row past)) ∙ is))
 
--- so does the plain link of a field
 end-leads : (f : Frame) (n field : ℕ) → LinksLead f → IsWithin (length f.rows) (end_of_link f n field)
 end-leads f n field lead = by (slice_get (row_at f n).links (link_number (label_at f n) field)) refl
   where
@@ -66,7 +63,6 @@ end-leads f n field lead = by (slice_get (row_at f n).links (link_number (label_
     by (Some None) is = tt
     by (Some (Some m)) is = link-leads f n (link_number (label_at f n) field) m lead is
 
--- a record of a structure is one of these records
 named-leads : (f : Frame) (name : List ℕ) (to : Option ℕ) → IsWithin (length f.rows) to
     → IsWithin (length f.rows) (option_and_then (if_named f name) to)
 named-leads f name None within = tt
@@ -76,13 +72,11 @@ named-leads f name (Some m) within =
       | false ↦ tt
     ]
 
--- the record of a structure to which a plain link leads is a row
 target-leads : (f : Frame) (name : List ℕ) (n : ℕ) (field : Option ℕ) → LinksLead f
     → IsWithin (length f.rows) (target f name n field)
 target-leads f name n None lead = tt
 target-leads f name n (Some field) lead = named-leads f name (end_of_link f n field) (end-leads f n field lead)
 
--- so is the first of a list
 head-leads : (f : Frame) (name : List ℕ) (from : Option ℕ) → LinksLead f
     → IsWithin (length f.rows) (option_and_then (head f name) from)
 head-leads f name None lead = tt
@@ -112,7 +106,6 @@ walk-within (suc n) f name met (Some k) lead within =
       | false ↦ (within, more)
     ]
 
--- the channels of a kind are rows
 channels-within : (f : Frame) (kind : Kind) → LinksLead f
     → AllByRecursion (λ k. k < length f.rows) (channels f kind)
 channels-within f kind lead =
@@ -144,7 +137,6 @@ short-single numbers (Pair width) (c ∷ cs) text fits = absurd fits
 short-single numbers Text (c ∷ cs) text fits = absurd fits
 short-single numbers Link (c ∷ cs) text fits = absurd fits
 
--- each text among values that fit is short
 short-text : (numbers : List ℕ) (fields : List Field) (values : List Value) (k : ℕ) (text : List ℕ)
     → AllZip (λ (f : Field) (v : Value). FitsField numbers f.form f.counts v) fields values
     → slice_get values k ≡ Some (value.Text text) → IsShortText text
@@ -181,7 +173,6 @@ name-value l name is = by (name_field l.entry.elements) is
     by None is = absurd (none-some name is)
     by (Some i) is = (i, at (slice_get l.values i) is)
 
--- the name of a row is short
 name-short : (dictionary : List Entry) (f : Frame) (k : ℕ) (name : List ℕ) → IsWritableFrame dictionary f
     → k < length f.rows → name_of (label_at f k) ≡ Some name → IsShortText name
 name-short dictionary f k name w less is =
@@ -203,7 +194,6 @@ pub record IsChannel (f : Frame) (channel : List ℕ × ℕ) : Type 0 where
 abbrev pub HasChannels : Frame → Type 0
 HasChannels f = (kind : Kind) → AllByRecursion (IsChannel f) (named_channels f kind)
 
--- rows with their names are channels
 named-within : (dictionary : List Entry) (f : Frame) (ks : List ℕ) → IsWritableFrame dictionary f
     → AllByRecursion (λ k. k < length f.rows) ks → AllByRecursion (IsChannel f) (filter_map (named_channel f) ks)
 named-within dictionary f [] w all = tt
@@ -216,7 +206,6 @@ named-within dictionary f (k ∷ ks) w all = by (name_of (label_at f k)) refl (n
     by None is rest = rest
     by (Some name) is rest = (record { short = name-short dictionary f k name w all.0 is; within = all.0 }, rest)
 
--- A frame that can be written has such channels alone.
 pub has-channels : (dictionary : List Entry) (f : Frame) → IsWritableFrame dictionary f → HasChannels f
 has-channels dictionary f w kind =
     named-within dictionary f (channels f kind) w (channels-within f kind (λ k less. (w.rows k less).row.within))

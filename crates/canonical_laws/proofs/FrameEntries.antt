@@ -81,7 +81,7 @@ records-needed dictionary es (r ∷ rs) needed all =
       distinct = distinct-added o es r.entry refl needed.distinct;
     }) all.1
 
-row-of_frame : (f : Frame) (k : ℕ) (kind : Kind) → IsRowOfKind kind f k → is_frame_kind kind ≡ true
+pub row-of_frame : (f : Frame) (k : ℕ) (kind : Kind) → IsRowOfKind kind f k → is_frame_kind kind ≡ true
 row-of_frame f k Other is = refl
 row-of_frame f k FrameH is = refl
 row-of_frame f k FrEndOfFrame is = absurd is
@@ -135,7 +135,7 @@ few-needed dictionary es sound needed =
 -- ---- those of a closing are none of them
 
 -- what is found is one of them
-found-all : (P : Entry → Type 0) (es : List Entry) (class : ℕ) (e : Entry) → AllByRecursion P es
+pub found-all : (P : Entry → Type 0) (es : List Entry) (class : ℕ) (e : Entry) → AllByRecursion P es
     → entry_of es class ≡ Some e → P e
 found-all P [] class e all is = absurd cc
 found-all P (x ∷ xs) class e all is = by (eqb class x.class) is (found-all P xs class e all.1)

@@ -56,7 +56,6 @@ record HasLayout (e : Entry) : Type 0 where
   is : layout_of e.elements ≡ Some fields
   fit : has_table e.elements ≡ true
 
--- the layout of a fit entry
 has-layout : (e : Entry) → is_fit e ≡ true → HasLayout e
 has-layout e fit =
     let parts = and_parts (is_some (layout_of e.elements)) (has_table e.elements) fit in
@@ -67,7 +66,6 @@ has-layout e fit =
     by None is some table = absurd (false≢true some)
     by (Some fields) is some table = record { fields = fields; is = is; fit = table }
 
--- its fields are those of the entry
 layout-fields : (e : Entry) (l : HasLayout e) → entry_fields e ≡ l.fields
 layout-fields e l = ap (λ o. unwrap_or o []) l.is
 
@@ -123,7 +121,6 @@ record-writable dictionary held size built e t =
 abbrev table_at : List Entry → ℕ → Built → Entry → StoredTable
 table_at held at built e = record { held = held; structure = record_structure at (table_record built e) }
 
--- what is read of it
 abbrev table_read : Built → Entry → Table
 table_read built e =
     table_of (table_layout e.elements) (table_values (table_layout e.elements) (entry_fields e) built)
@@ -159,17 +156,16 @@ table-judged dictionary held size at frames built e s t count judged =
 -- ---- the way back leads to it
 
 -- what is judged where the end leads to a table
-seek-leads : (order : Order) (bytes frames : ℕ) (built : Built) (o : Option StoredTable) (t : StoredTable) (seek : ℕ)
+led : (order : Order) (bytes frames : ℕ) (built : Built) (o : Option StoredTable) (t : StoredTable) (seek : ℕ)
     (s : TableState) → o ≡ Some t → 0 < seek → t.structure.at + seek ≡ bytes
     → IsState order bytes frames built o seek s → IsJudged (is_listed order frames t) built s
-seek-leads order bytes frames built o t zero s is some place state = absurd (omega (arith, some))
-seek-leads order bytes frames built o t (suc n) s is some place state =
+led order bytes frames built o t zero s is some place state = absurd (omega (arith, some))
+led order bytes frames built o t (suc n) s is some place state =
     subst (λ o. IsStateOf order frames built o s)
     (ap (option_and_then (if_led bytes (suc n))) is
     ∙ cond-true _ _ _ (eq-eqb (t.structure.at + suc n) bytes place))
     state
 
--- the way back leads over the record and what comes after it
 way-back : (behind length : ℕ) → 0 < length → way_back behind length ≡ length + behind
 way-back behind zero some = absurd (omega (arith, some))
 way-back behind (suc n) some = refl
@@ -236,18 +232,17 @@ table-in_file dictionary fs e t c all end table limit contents written =
       limit = omega (arith, may.whole, limit);
     } in
     let count : length w.built.heads ≡ w.frames = heads-counted begun fs refl in
-    let OfSeek : ℕ → Type 0 =
+    let Led : ℕ → Type 0 =
     λ n. IsState c.order c.bytes c.frames c.channels (table_in c.order contents.items) n c.table in
     let judged : IsJudged (is_listed c.order c.frames stored) c.channels c.table =
-    seek-leads c.order c.bytes c.frames c.channels (table_in c.order contents.items) stored seek c.table tables
-    (omega (arith, back, size)) place (subst OfSeek (ap seek_or_none seeks) contents.table_is) in
-    let OfOrder : Order → Type 0 = λ order. IsJudged (is_listed order c.frames stored) c.channels c.table in
-    let OfCount : ℕ → Type 0 = λ n. IsJudged (is_listed Little n stored) c.channels c.table in
-    let OfBuilt : Built → Type 0 = λ built. IsJudged (is_listed Little w.frames stored) built c.table in
+    led c.order c.bytes c.frames c.channels (table_in c.order contents.items) stored seek c.table tables
+    (omega (arith, back, size)) place (subst Led (ap seek_or_none seeks) contents.table_is) in
+    let Ordered : Order → Type 0 = λ order. IsJudged (is_listed order c.frames stored) c.channels c.table in
+    let Counted : ℕ → Type 0 = λ n. IsJudged (is_listed Little n stored) c.channels c.table in
+    let Built_of : Built → Type 0 = λ built. IsJudged (is_listed Little w.frames stored) built c.table in
     table-judged dictionary held w.size at w.frames w.built t c.table is count
-    (subst OfBuilt channels (subst OfCount frames (subst OfOrder same.0 judged)))
+    (subst Built_of channels (subst Counted frames (subst Ordered same.0 judged)))
 
--- So it is in each canonical file of frames that can be written.
 pub good_tables : WrittenTablesAreGood
 good_tables dictionary fs closing c sound frames writable few limit contents some =
     by closing.end closing.table writable.end writable.table limit contents some
@@ -259,5 +254,5 @@ good_tables dictionary fs closing c sound frames writable few limit contents som
         → c.table ≡ state.Good
     by e None end table limit contents some = absurd (some refl)
     by e (Some t) end table limit contents some =
-        let all : AreWritten dictionary fs = record { sound = sound; frames = frames; few = few } in
-        table-in_file dictionary fs e t c all end table limit contents (written-fits (after_frames begun fs) e t some)
+        table-in_file dictionary fs e t c (record { sound = sound; frames = frames; few = few }) end table limit contents
+        (written-fits (after_frames begun fs) e t some)

@@ -52,3 +52,10 @@ pub mod TableValues
 pub mod TablePositions
 pub mod TablesBack
 pub mod GoodTables
+pub mod LikeEntries
+pub mod DictionaryParts
+pub mod UsedTogether
+pub mod FramesUnder
+pub mod SplicedFrames
+pub mod SplicesInOrder
+pub mod SplicedContents

@@ -10,8 +10,7 @@ use Rattle.contents_table.specs.declared.kind.Kind.{Kind}
 use Rattle.contents_table.specs.declared.kind.Kind.TheVariants.{Adc, Proc, Sim, Ser}
 use Rattle.contents_table.specs.Channels.{structure_of, header_of, first_channel, next_channel, channels_from}
 use Rattle.contents_table.specs.Channels.{named_channel, named_channels}
-use Rattle.contents_table.specs.Built.{Built, with_frame, with_channel, place_of, with_named, with_channels}
-use Rattle.contents_table.specs.Built.{with_frame_at}
+use Rattle.contents_table.specs.Built.{Built, with_frame, with_channel, place_of, with_named, with_channels, with_frame_at}
 use Rattle.canonical_file.proofs.RenumberedTable.{all-kinds}
 use Rattle.canonical_laws.proofs.ChannelRows.{header-within, IsChannel, HasChannels}
 
@@ -20,21 +19,19 @@ abbrev pub SamePlaces : ℕ → List ℕ → List ℕ → Type 0
 SamePlaces n places own = (k : ℕ) → k < n → place_of places k ≡ place_of own k
 
 -- the frame with other roots
-abbrev with_roots : Frame → List ℕ → Frame
-with_roots f roots = record f { roots = roots }
+abbrev rooted : Frame → List ℕ → Frame
+rooted f roots = record f { roots = roots }
 
--- the channels are the same whatever the roots
 walk-rooted : (n : ℕ) (f : Frame) (roots name met : List ℕ) (at : Option ℕ)
-    → channels_from n (with_roots f roots) name met at ≡ channels_from n f name met at
+    → channels_from n (rooted f roots) name met at ≡ channels_from n f name met at
 unfolding channels_from
 walk-rooted zero f roots name met at = refl
 walk-rooted (suc n) f roots name met None = refl
 walk-rooted (suc n) f roots name met (Some k) =
     ap (λ later. cond (has met k) [] (k ∷ later)) (walk-rooted n f roots name (k ∷ met) (next_channel f name k))
 
--- so are their names
 names-rooted : (f : Frame) (roots : List ℕ) (kind : Kind)
-    → named_channels (with_roots f roots) kind ≡ named_channels f kind
+    → named_channels (rooted f roots) kind ≡ named_channels f kind
 names-rooted f roots kind =
     ap (filter_map (named_channel f))
     (walk-rooted (length f.rows) f roots (structure_of kind) [] (first_channel f kind))
@@ -48,15 +45,13 @@ channels-listed f places own kind (c ∷ cs) built same all =
     ap (λ at. fold (with_named kind places) (with_channel kind c.0 at built) cs) (same c.1 all.0.within)
     ∙ channels-listed f places own kind cs (with_named kind own built c) same all.1
 
--- what is listed of a kind is the same
 kind-listed : (f : Frame) (roots places own : List ℕ) → SamePlaces (length f.rows) places own → HasChannels f
     → (built : Built) (kind : Kind)
-    → with_channels places (with_roots f roots) built kind ≡ with_channels own f built kind
+    → with_channels places (rooted f roots) built kind ≡ with_channels own f built kind
 kind-listed f roots places own same all built kind =
     ap (fold (with_named kind places) built) (names-rooted f roots kind)
     ∙ channels-listed f places own kind (named_channels f kind) built same (all kind)
 
--- the FrameH stands at the same place
 header-listed : (n : ℕ) (places own : List ℕ) (header : Option ℕ) → SamePlaces n places own → IsWithin n header
     → option_map_or (place_of places) header 0 ≡ option_map_or (place_of own) header 0
 header-listed n places own None same within = refl
@@ -66,8 +61,8 @@ header-listed n places own (Some k) same within = same k within
 pub frame-listed : (f : Frame) (roots places own : List ℕ) (built : Built) → SamePlaces (length f.rows) places own
     → HasChannels f → with_frame_at places (record f { roots = roots }) built ≡ with_frame_at own f built
 frame-listed f roots places own built same all =
-    ap (λ at. fold (with_channels places (with_roots f roots)) (with_frame at built) (Adc ∷ Proc ∷ Sim ∷ Ser ∷ []))
+    ap (λ at. fold (with_channels places (rooted f roots)) (with_frame at built) (Adc ∷ Proc ∷ Sim ∷ Ser ∷ []))
     (header-listed (length f.rows) places own (header_of f) same (header-within f))
-    ∙ all-kinds (with_channels places (with_roots f roots)) (with_channels own f)
+    ∙ all-kinds (with_channels places (rooted f roots)) (with_channels own f)
     (kind-listed f roots places own same all) (Adc ∷ Proc ∷ Sim ∷ Ser ∷ [])
     (with_frame (option_map_or (place_of own) (header_of f) 0) built)

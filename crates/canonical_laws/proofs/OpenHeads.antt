@@ -60,7 +60,6 @@ no-part_of_open file order others mid begins unclosed ends n (other, items, last
 
 -- ---- canonical heads
 
--- no part of the head of frames that can be written is well-formed
 pub no_part_of_a_head : NoPartOfAHeadIsWhole
 no_part_of_a_head dictionary fs n sound frames few limit =
     let head : List ℕ = canonical_head fs in
@@ -81,7 +80,6 @@ no_part_of_a_head dictionary fs n sound frames few limit =
     (subst (λ xs. Begins xs Little (frames_items nothing_yet fs) mid) same begins) stands.between.unclosed
     (sym stands.tells.size ∙ sym (head-size fs)) n
 
--- nor is the whole head
 pub no_head : NoCanonicalHeadIsWhole
 no_head dictionary fs sound frames few limit whole =
     let head : List ℕ = canonical_head fs in
@@ -90,7 +88,6 @@ no_head dictionary fs sound frames few limit whole =
 
 -- ---- canonical files
 
--- nor is a part of the file that ends before it does
 pub no_part_of_a_file : NoPartOfACanonicalFileIsWhole
 no_part_of_a_file dictionary fs closing n sound frames writable few limit less part =
     let back = read_back dictionary fs closing sound frames writable few limit in

@@ -15,7 +15,6 @@ use Rattle.canonical_laws.proofs.RecordsInTurn.{before_record, after_piece, afte
 use Rattle.canonical_laws.proofs.RecordsInTurn.{pieces-append}
 use Rattle.canonical_laws.proofs.ListedPlaces.{SamePlaces}
 
--- the place of a structure
 abbrev place_at : Structure → ℕ
 place_at s = s.at
 

@@ -126,7 +126,7 @@ pub source-held : (held : List Entry) (class : ℕ) (e : Entry) → AreSources h
 source-held held class e are is =
     find-some (λ (x : Entry). class == x.class) IsWritableEntry held e are.writable is
 
-are-read : (es : List Element) → AllByRecursion IsWritableElement es → AllByRecursion IsRead es
+pub are-read : (es : List Element) → AllByRecursion IsWritableElement es → AllByRecursion IsRead es
 are-read [] all = tt
 are-read (e ∷ es) all = (all.0.read, are-read es all.1)
 

@@ -22,11 +22,9 @@ use Rattle.contents_table.proofs.TellingFields.{Shape, shape-at, frames-told, co
 
 -- ---- a field that is among those that tell something does
 
--- it tells something
 abbrev TellsSome : ℕ × Tells → Type 0
 TellsSome t = t.1 ≡ told.Nothing → ⊥
 
--- the first field of a number tells something, where one of that number does
 first-some : (ts : List (ℕ × Tells)) (i k : ℕ) (u : Tells) → slice_get ts i ≡ Some (k, u)
     → AllByRecursion TellsSome ts → unwrap_or (first_of_number ts k) told.Nothing ≡ told.Nothing → ⊥
 first-some [] i k u at all nothing = none-some (k, u) at
@@ -120,7 +118,6 @@ two-counts frames kf = by kf.by_name
     by true = (Of kf.count, Of frames, refl)
     by false = (Of frames, Of kf.count, refl)
 
--- a field of these dimensions tells positions of this kind, if anything
 is-positions : (fields : List Field) (layout : TableLayout) → IsTableLayout fields layout → (kind : Kind)
     (kf : KindFields) → fields_of layout kind ≡ Some kf → (j : ℕ) (f : Field) → f.form ≡ Number Eight
     → f.counts ≡ position_counts layout.frames kf → (u : Tells) → Shape layout j f u

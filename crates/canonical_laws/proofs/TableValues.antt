@@ -34,26 +34,22 @@ use Rattle.canonical_laws.proofs.BuiltFrames.{IsListedWithin, IsBuilt, position-
 
 -- ---- fields that tell nothing
 
--- zero has no more bytes than any width
 zero-fits : (width : Width) → FitsWidth width 0
 zero-fits One = lit< tt
 zero-fits Two = lit< tt
 zero-fits Four = lit< tt
 zero-fits Eight = lit< tt
 
--- a single item that tells nothing fits
 single-blank : (form : Form) → FitsSingle form (blank_single form)
 single-blank (Number width) = zero-fits width
 single-blank (Pair width) = (zero-fits width, zero-fits width)
 single-blank Text = omega arith
 single-blank Link = tt
 
--- so do zeros
 numbers-blank : (width : Width) (n : ℕ)
     → (length (replicate n zero) ≡ n) × All (FitsWidth width) (replicate n zero)
 numbers-blank width n = (length-replicate n zero, All-replicate (FitsWidth width) n zero (zero-fits width))
 
--- so does a list of items that tell nothing
 listed-blank : (form : Form) (n : ℕ) → FitsListed form n (blank_listed form n)
 listed-blank (Number One) n = length-replicate n zero
 listed-blank (Number Two) n = numbers-blank Two n
@@ -66,7 +62,6 @@ listed-blank (Pair width) n = (
 listed-blank Text n = (length-replicate n [], All-replicate IsShortText n [] (omega arith))
 listed-blank Link n = length-replicate n null_link
 
--- so does the value of any field
 blank-fits : (numbers : List ℕ) (form : Form) (counts : List Count)
     → FitsField numbers form counts (blank_by numbers form counts)
 blank-fits numbers form [] = single-blank form
@@ -76,14 +71,12 @@ blank-fits numbers form (c ∷ cs) = listed-blank form (item_count numbers (c �
 null-range : IsLinkInRange null_link
 null-range = (lit< tt, lit< tt)
 
--- a single item that tells nothing is in range
 single-range : (form : Form) → IsInRange (blank_single form)
 single-range (Number width) = tt
 single-range (Pair width) = tt
 single-range Text = tt
 single-range Link = null-range
 
--- so is a list of them
 listed-range : (form : Form) (n : ℕ) → IsInRange (blank_listed form n)
 listed-range (Number One) n = All-replicate IsByte n zero (lit< tt)
 listed-range (Number Two) n = tt
@@ -93,21 +86,18 @@ listed-range (Pair width) n = tt
 listed-range Text n = tt
 listed-range Link n = All-replicate IsLinkInRange n null_link null-range
 
--- so is the value of any field
 blank-range : (numbers : List ℕ) (form : Form) (counts : List Count) → IsInRange (blank_by numbers form counts)
 blank-range numbers form [] = single-range form
 blank-range numbers form (c ∷ cs) = listed-range form (item_count numbers (c ∷ cs))
 
 -- ---- fields that tell something
 
--- a count has no more bytes than a width of four or eight
 wide-fits : (width : Width) (n : ℕ) → 4 ≤ size_of width → n ≤ 4294967295 → FitsWidth width n
 wide-fits One n wide small = absurd (omega (arith, wide))
 wide-fits Two n wide small = absurd (omega (arith, wide))
 wide-fits Four n wide small = omega (arith, small)
 wide-fits Eight n wide small = omega (arith, small)
 
--- a count fits its field
 counter-fits : (numbers : List ℕ) (f : Field) (n : ℕ) → IsCounter f → n ≤ 4294967295
     → FitsField numbers f.form f.counts (value.Num n)
 counter-fits numbers f n c small =
@@ -115,7 +105,6 @@ counter-fits numbers f n c small =
     subst (λ counts. FitsField numbers f.form counts (value.Num n)) (sym c.single)
     (subst (λ form. FitsField numbers form [] (value.Num n)) (sym c.form_is) one)
 
--- a list of as many items as its field says fits the field
 list-fits : (numbers : List ℕ) (form : Form) (n : ℕ) (f : Field) (v : Value) → IsListOf numbers form n f
     → FitsListed form n v → FitsField numbers f.form f.counts v
 list-fits numbers form n f v s fits =
@@ -129,25 +118,21 @@ list-fits numbers form n f v s fits =
 place-fits : (size n : ℕ) → size ≤ file_limit → n ≤ size → FitsWidth Eight n
 place-fits size n limit within = omega (arith, limit, within)
 
--- so do all places
 places-fit : (size : ℕ) (places : List ℕ) → size ≤ file_limit → AllByRecursion (λ at. at ≤ size) places
     → All (FitsWidth Eight) places
 places-fit size [] limit all = All-nil (FitsWidth Eight)
 places-fit size (at ∷ places) limit all =
     All-cons (FitsWidth Eight) at places (place-fits size at limit all.0) (places-fit size places limit all.1)
 
--- what holds of each item made holds of all
 map-all : {X Y : Type 0} (P : Y → Type 0) (f : X → Y) → ((x : X) → P (f x)) → (xs : List X) → All P (map f xs)
 map-all P f each [] = All-nil P
 map-all P f each (x ∷ xs) = All-cons P (f x) (map f xs) (each x) (map-all P f each xs)
 
--- what holds of all items of each part holds of all
 flat-all : {X Y : Type 0} (P : Y → Type 0) (f : X → List Y) → ((x : X) → All P (f x)) → (xs : List X)
     → All P (flat_map f xs)
 flat-all P f each [] = All-nil P
 flat-all P f each (x ∷ xs) = All-append P (f x) (flat_map f xs) (each x) (flat-all P f each xs)
 
--- each position takes eight bytes at most
 positions-fit : (by_name : Bool) (size frames : ℕ) (listed : List Listed) (names : List (List ℕ)) → size ≤ file_limit
     → AllByRecursion (IsListedWithin size) listed → All (FitsWidth Eight) (positions_of by_name frames listed names)
 positions-fit true size frames listed names limit all =
@@ -161,7 +146,6 @@ positions-fit false size frames listed names limit all =
     (λ name. place-fits size (position_in listed name frame) limit (position-within size listed name frame all))
     names) (numbers_below frames)
 
--- each name is short
 names-fit : (frames : ℕ) (listed : List Listed) → AreNames frames listed → All IsShortText (map name_in listed)
 names-fit frames listed names =
     All-map IsShortText name_in listed
@@ -188,7 +172,6 @@ field-fits numbers built size (told.Positions kind by_name) f is limit s few =
     list-fits numbers (Number Eight) (length positions) f (value.Nums positions) s
     (refl, positions-fit by_name size (length built.heads) listed (map name_in listed) limit (is.places kind))
 
--- what a field tells is in range
 field-range : (numbers : List ℕ) (built : Built) (u : Tells) (f : Field)
     → IsInRange (field_value numbers built u f)
 field-range numbers built told.Nothing f = blank-range numbers f.form f.counts
@@ -200,7 +183,6 @@ field-range numbers built (told.Positions kind by_name) f = tt
 
 -- ---- all fields
 
--- what holds place by place holds of two lists
 zip-at : {X Y : Type 0} (R : X → Y → Type 0) (xs : List X) (ys : List Y) → length xs ≡ length ys
     → ((k : ℕ) (x : X) (y : Y) → slice_get xs k ≡ Some x → slice_get ys k ≡ Some y → R x y) → AllZip R xs ys
 zip-at R [] [] size each = tt
@@ -209,7 +191,6 @@ zip-at R (x ∷ xs) [] size each = absurd (omega (arith, size))
 zip-at R (x ∷ xs) (y ∷ ys) size each =
     (each 0 x y refl refl, zip-at R xs ys (omega (arith, size)) (λ k a b here there. each (suc k) a b here there))
 
--- what holds place by place holds of a list
 all-at : {X : Type 0} (P : X → Type 0) (xs : List X) → ((k : ℕ) (x : X) → slice_get xs k ≡ Some x → P x)
     → AllByRecursion P xs
 all-at P [] each = tt

@@ -52,7 +52,6 @@ listed-from names front (l ∷ more) is =
     and_from (is_listed names l) (list_all (is_listed names) more) here
     (listed-from names (front ++ l.name ∷ []) more (is ∙ split))
 
--- all names are listed among themselves
 all-listed : (listed : List Listed) → list_all (is_listed (map name_in listed)) listed ≡ true
 all-listed listed = listed-from (map name_in listed) [] listed refl
 
@@ -81,7 +80,6 @@ frames-back fields layout built t =
     ap (λ o. option_map_or number_of o 0)
     (value-told fields layout built told.Frames layout.frames s.field t s.is (frames-told layout))
 
--- the places of the frames
 heads-back : (fields : List Field) (layout : TableLayout) (built : Built) → IsTold fields layout built
     → numbers_at (table_values layout fields built) layout.heads ≡ built.heads
 heads-back fields layout built t =
@@ -96,7 +94,6 @@ names-back fields layout built t kind kf e =
     let h = names-told fields layout t.told.fit kind kf e in
     ap (λ o. option_map_or texts_of o []) (value-told fields layout built (told.Names kind) kf.names h.0 t h.1 h.3)
 
--- the positions of a kind
 positions-back : (fields : List Field) (layout : TableLayout) (built : Built) → IsTold fields layout built
     → (kind : Kind) (kf : KindFields) → fields_of layout kind ≡ Some kf
     → numbers_at (table_values layout fields built) kf.positions
@@ -108,7 +105,6 @@ positions-back fields layout built t kind kf e =
 
 -- ---- the table is good
 
--- what is listed of a kind is good
 kind-good : (fields : List Field) (layout : TableLayout) (built : Built) → IsTold fields layout built → (kind : Kind)
     (kf : KindFields) → fields_of layout kind ≡ Some kf
     → IsGoodKind (listed_of built kind) (kind_table (table_values layout fields built) layout.frames kf)

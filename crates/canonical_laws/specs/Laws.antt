@@ -57,14 +57,13 @@ WrittenTablesAreGood =
 
 -- ---- parts of canonical files
 
--- The canonical head of frames that can be written is not well-formed.
+-- The canonical head of frames that can be written is not well-formed, nor is a part of it from its beginning on.
 abbrev pub NoCanonicalHeadIsWhole : Type 0
 NoCanonicalHeadIsWhole =
     (dictionary : List Entry) (frames : List Frame) → IsDictionary dictionary
     → AllByRecursion (IsWritableFrame dictionary) frames → length frames ≤ frames_limit
     → length (canonical_head frames) ≤ file_limit → WellFormed (canonical_head frames) → ⊥
 
--- Nor is a part of it from its beginning on.
 abbrev pub NoPartOfAHeadIsWhole : Type 0
 NoPartOfAHeadIsWhole =
     (dictionary : List Entry) (frames : List Frame) (n : ℕ) → IsDictionary dictionary

@@ -10,6 +10,11 @@ ghost use Rattle.canonical_laws.specs.Laws.{CanonicalFilesAreUnique, CanonicalFi
 ghost use Rattle.canonical_laws.specs.Laws.{CanonicalFilesTellContents, CanonicalFilesStay};
 ghost use Rattle.canonical_laws.specs.Sources.{EntriesOfFilesAreWritable, FramesOfFilesAreWritable};
 ghost use Rattle.canonical_laws.specs.Sources.{ClosingsOfFilesAreWritable};
+ghost use Rattle.canonical_laws.specs.Spliced.{SplicedFramesAreWrittenTogether};
+ghost use Rattle.canonical_laws.specs.Spliced.{NoPartOfASplicedHeadIsWhole, NoPartOfASplicedFileIsWhole};
+ghost use Rattle.canonical_laws.specs.Spliced.{SplicedFilesAreReadBack, FramesOfFilesAreWritableSomewhere};
+ghost use Rattle.canonical_laws.specs.Spliced.{FirstFilesAreSpliced, MoreFramesAreSpliced};
+ghost use Rattle.canonical_laws.specs.Spliced.{SplicesAreCanonical, SplicesKeepContents, NoPartOfASpliceIsWhole};
 
 /// A canonical file of frames and of a closing that can be written is well-formed and reads back as these.
 pub fn written_files_are_read_back()
@@ -36,8 +41,8 @@ pub fn canonical_tables_are_good()
 {}
 
 /// The canonical head of frames that can be written is no well-formed file, nor is any part of it from its
-/// beginning on, nor any part of a canonical file that ends before the file does. So what stands of such a file
-/// before it is written to its end is never taken for a whole one.
+/// beginning on, nor any part of a canonical file that ends before the file does. So a file that was not
+/// written to its end is never taken for a whole one.
 pub fn no_canonical_head_is_whole()
     ensures heads { NoCanonicalHeadIsWhole }
     ensures parts { NoPartOfAHeadIsWhole }
@@ -56,4 +61,38 @@ pub fn canonical_files_tell_contents()
     ensures keep { CanonicalFilesKeepContents }
     ensures tell { CanonicalFilesTellContents }
     ensures stay { CanonicalFilesStay }
+{}
+
+/// Frames of several files, none of which clashes with those before it, can be written by one dictionary with the
+/// closing of the first file.
+pub fn spliced_frames_are_written_together()
+    ensures { SplicedFramesAreWrittenTogether }
+{}
+
+/// No part of the canonical head of such frames is a well-formed file, nor is any part of their canonical file
+/// that ends before the file does.
+pub fn no_spliced_head_is_whole()
+    ensures heads { NoPartOfASplicedHeadIsWhole }
+    ensures files { NoPartOfASplicedFileIsWhole }
+{}
+
+/// The canonical file of such frames and of the closing is well-formed and reads back as these.
+pub fn spliced_files_are_read_back()
+    ensures { SplicedFilesAreReadBack }
+{}
+
+/// The frames of files of bytes are such frames: those of a first file with its closing, and then more frames of
+/// other files that do not clash.
+pub fn files_can_be_spliced()
+    ensures frames { FramesOfFilesAreWritableSomewhere }
+    ensures first { FirstFilesAreSpliced }
+    ensures more { MoreFramesAreSpliced }
+{}
+
+/// The canonical file of a splice of what files hold is well-formed, and its content is the splice. No part of it
+/// that ends before it does is well-formed.
+pub fn splices_keep_contents()
+    ensures canonical { SplicesAreCanonical }
+    ensures keep { SplicesKeepContents }
+    ensures parts { NoPartOfASpliceIsWhole }
 {}
