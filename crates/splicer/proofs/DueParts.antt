@@ -1,6 +1,6 @@
 -- The canonical head of frames that stand is a part of what is due where more of them come.
-use Rattle.std.proofs.Common.{◌≡◌, ℕ, ◌+◌, ◌<◌, ◌≤◌, min, List, [], ◌∷◌, ◌++◌, length, take, true, false, Option, Some, Ok, Err}
-use Rattle.std.proofs.Common.{refl, sym, ap, ◌∙◌, subst, append_assoc, arith}
+use Rattle.std.proofs.Common.{◌≡◌, ℕ, ◌+◌, ◌<◌, ◌≤◌, min, List, [], ◌∷◌, ◌++◌, length, take, Option, Some, refl, sym}
+use Rattle.std.proofs.Common.{ap, ◌∙◌, append_assoc, arith}
 use Rattle.std.specs.Prelude.{flat_map}
 use Rattle.std.proofs.lemmas.List.{length-append, take-append-le, take_min}
 use Rattle.std.proofs.lemmas.Grind.{flat_map-append}
@@ -13,7 +13,7 @@ use Rattle.canonical_file.specs.Bytes.{body_bytes}
 use Rattle.contents_table.specs.Told.{values_told}
 use Rattle.canonical_file.specs.Written.{Written, begun, after_frame, after_frames, frame_part, frame_parts}
 use Rattle.canonical_file.specs.Written.{table_piece, after_table, end_told, end_bytes, end_size, closed_size, way_back}
-use Rattle.canonical_file.specs.Written.{closing_part, canonical_head, canonical_file}
+use Rattle.canonical_file.specs.Written.{closing_part, canonical_head}
 use Rattle.canonical_file.proofs.EndSizes.{structure-size}
 use Rattle.splicer.specs.Due.{Due, Writes, Stops, is_whole, output_of}
 use Rattle.splicer.specs.Left.{IsPart, LeavesPart}
@@ -58,7 +58,7 @@ frames-counted w [] = omega arith
 frames-counted w (f ∷ fs) = let later = frames-counted (after_frame w f) fs in omega arith
 
 -- The first bytes of what stands are those of what is due, and where that is a whole file, not all of it.
-pub part-of_due : (stood more : List Frame) (due : Due) (n : ℕ) → frames_of due ≡ stood ++ more
+part-of_due : (stood more : List Frame) (due : Due) (n : ℕ) → frames_of due ≡ stood ++ more
     → n ≤ length (canonical_head stood)
     → IsPart (is_whole due) n (output_of due) × (take n (canonical_head stood) ≡ take n (output_of due))
 part-of_due stood more (Writes closing frames) n are within =

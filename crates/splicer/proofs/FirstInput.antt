@@ -1,7 +1,7 @@
 -- The first input is opened, and then the file is made.
-use Rattle.std.proofs.Common.{◌≡◌, ◌≢◌, ℕ, ◌+◌, ◌-◌, ◌<◌, ◌≤◌, ◌⊎◌, inl, inr, List, [], ◌∷◌, ◌++◌, length, take, drop, map, get_or}
-use Rattle.std.proofs.Common.{suc, Option, Some, None, IfSome, option_map, Result, Ok, Err, refl, sym, ap, ◌∙◌, subst, append-nil, add-one}
-use Rattle.std.proofs.Common.{arith}
+use Rattle.std.proofs.Common.{◌≡◌, ℕ, ◌+◌, ◌<◌, ◌≤◌, ◌⊎◌, inl, inr, List, [], ◌∷◌, ◌++◌, length, take, drop, map}
+use Rattle.std.proofs.Common.{get_or, suc, Option, Some, None, IfSome, option_map, Err, refl, sym, ap, ◌∙◌, subst}
+use Rattle.std.proofs.Common.{append-nil, add-one, arith}
 use Rattle.std.proofs.Math.Seq.{drop-cons}
 use Rattle.std.proofs.lemmas.List.{drop-map}
 use Rattle.std.proofs.lemmas.List.Elements.{All-nil}
@@ -10,27 +10,16 @@ use Rattle.std.specs.Option.{option_and_then}
 use Rattle.dictionary.specs.declared.entries.Entry.{Entry}
 use Rattle.dictionary.specs.Dictionary.{class_named}
 use Rattle.frame_head.specs.Header.{header_bytes}
-use Rattle.frame_outside.specs.Counts.{Rose}
-use Rattle.frame_outside.specs.Shelf.{Outside, Files, Reading, Told, IsSource, IsTarget, Opens, reading_at, beginning_of}
-use Rattle.frame_outside.specs.Shelf.{Slot, Source, Target, beginning, writing_begun, released}
-use Rattle.frame_outside.specs.declared.traits.ShelfError.{ShelfError}
-use Rattle.frame_outside.specs.declared.traits.ShelfError.TheVariants as shelf
+use Rattle.frame_outside.specs.Shelf.{Outside, Files, Reading, Told, IsSource, IsTarget, Opens, reading_at}
+use Rattle.frame_outside.specs.Shelf.{beginning_of, Slot, Source, Target, beginning, writing_begun}
 use Rattle.frame_outside.proofs.Slots.{IsSource-opens, IsSource-made, IsSource-write, IsTarget-makes, IsTarget-write}
-use Rattle.frame_outside.proofs.Slots.{IsTarget-more}
-use Rattle.frame_outside.proofs.Slots.{reading_at-given, reading_at-made, reading_at-write}
-use Rattle.item_reader.specs.Reader.{file_of}
+use Rattle.frame_outside.proofs.Slots.{IsTarget-more, reading_at-given, reading_at-made, reading_at-write}
 use Rattle.canonical_file.specs.declared.closing.Closing.{Closing}
 use Rattle.canonical_file.specs.Splices.{entries_used}
-use Rattle.canonical_file.specs.Written.{begun, after_frames, canonical_head}
-use Rattle.canonical_writer.specs.declared.errors.WriteError.{WriteError}
-use Rattle.canonical_writer.specs.declared.errors.WriteError.TheVariants as write
+use Rattle.canonical_file.specs.Written.{canonical_head}
 use Rattle.canonical_writer.specs.Parts.{AreConsistent, IsShortClosing}
 use Rattle.canonical_writer.specs.Writer.{Writer, fresh, Stays, BeginsFile, BeginsInPart}
-use Rattle.splicer.specs.declared.errors.InputError.{InputError}
-use Rattle.splicer.specs.declared.errors.InputError.TheVariants as input
 use Rattle.splicer.specs.declared.errors.SpliceError.{SpliceError}
-use Rattle.splicer.specs.declared.errors.SpliceError.TheVariants as splice
-use Rattle.splicer.specs.Errors.{refused, unwritten, error_of, IsOfInputs}
 use Rattle.splicer.specs.Due.{Due, IsDueFrom}
 use Rattle.splicer.specs.Made.{HasMade, WritesOneFile}
 use Rattle.splicer.specs.Spliced.{TellsFiles, HasOpened, Ends}

@@ -1,7 +1,7 @@
 -- A shelf of which slots are written: what is read of it, and what its other slots are.
 use Rattle.std.proofs.Common.{ℕ, List, take, Result, Ok, Err, refl, sym, ap, subst, ◌∙◌, arith}
 use Rattle.std.specs.Option.{option_map}
-use Rattle.frame_outside.specs.Shelf.{Outside, Reading, IsTarget, Writes, reading_at, write}
+use Rattle.frame_outside.specs.Shelf.{Outside, Reading, IsTarget, Writes, reading_at}
 use Rattle.frame_outside.specs.SlotReader.{Draws}
 use Rattle.frame_outside.proofs.Slots.{IsTarget-pass, IsTarget-write, reading_at-write}
 use Rattle.item_reader.proofs.ReadsStay.{reads-writes, reads-hands_out}

@@ -1,7 +1,7 @@
 -- The end of a splice: what is due once all inputs are written.
 use Rattle.std.proofs.Common.{◌≡◌, ℕ, ◌+◌, ◌-◌, ◌<◌, ◌≤◌, inl, inr, List, [], ◌++◌, length, take, drop, nat_lt, IfSome}
-use Rattle.std.proofs.Common.{Bool, true, false, cond, Option, Some, None, Result, Ok, Err, IsErrOf}
-use Rattle.std.proofs.Common.{refl, sym, ap, ◌∙◌, subst, append-nil, zero-add, arith}
+use Rattle.std.proofs.Common.{Bool, true, false, cond, Option, Some, None, Result, Ok, Err, IsErrOf, refl, sym, ap, ◌∙◌}
+use Rattle.std.proofs.Common.{subst, append-nil, zero-add, arith}
 use Rattle.std.proofs.lemmas.Bool.{false≢true}
 use Rattle.std.proofs.lemmas.List.{length-append, take_all}
 use Rattle.std.proofs.Math.Seq.{drop-length}

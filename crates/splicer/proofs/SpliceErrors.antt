@@ -1,5 +1,5 @@
 -- What an error says of a splice, and what it leaves of the shelf.
-use Rattle.std.proofs.Common.{◌≡◌, ℕ, ◌<◌, ◌≤◌, inl, inr, List, Result, Ok, Err, refl, sym, ap, arith}
+use Rattle.std.proofs.Common.{◌≡◌, ℕ, ◌≤◌, ◌⊎◌, inl, inr, List, Result, Err, refl, ap, arith}
 use Rattle.frame_outside.specs.Counts.{Rose}
 use Rattle.frame_outside.specs.Shelf.{Outside, Refuses}
 use Rattle.frame_outside.specs.declared.traits.ShelfError.{ShelfError}
@@ -8,9 +8,8 @@ use Rattle.canonical_writer.specs.declared.errors.WriteError.{WriteError}
 use Rattle.canonical_writer.specs.declared.errors.WriteError.TheVariants as write
 use Rattle.splicer.specs.declared.errors.InputError.{InputError}
 use Rattle.splicer.specs.declared.errors.InputError.TheVariants as input
-use Rattle.splicer.specs.declared.errors.SpliceError.{SpliceError}
 use Rattle.splicer.specs.declared.errors.SpliceError.TheVariants as splice
-use Rattle.splicer.specs.Errors.{refused, unwritten, error_of, IsOfInputs}
+use Rattle.splicer.specs.Errors.{refused, unwritten, error_of}
 use Rattle.splicer.specs.Made.{IsMade}
 use Rattle.splicer.specs.Spliced.{LeavesShelf}
 use Rattle.splicer.proofs.Making.{one-made, one-refused}
@@ -22,9 +21,15 @@ pub refused-failed : (error : ShelfError) → HasFailed (refused error)
 refused-failed shelf.Failed = inl refl
 refused-failed shelf.NoMemory = inr refl
 
-pub refused-device : (error : ShelfError) → refused error ≡ splice.Device → error ≡ shelf.Failed
+refused-device : (error : ShelfError) → refused error ≡ splice.Device → error ≡ shelf.Failed
 refused-device shelf.Failed is = refl
 refused-device shelf.NoMemory is = cc
+
+pub begun-failed : {X : Type 0} (error : WriteError)
+    → ◌≡◌ {A = Result X WriteError} (Err error) (Err write.Device)
+    ⊎ ◌≡◌ {A = Result X WriteError} (Err error) (Err write.NoMemory) → HasFailed (unwritten 0 error)
+begun-failed error (inl is) = let same : error ≡ write.Device = cc in inl (ap (unwritten 0) same)
+begun-failed error (inr is) = let same : error ≡ write.NoMemory = cc in inr (ap (unwritten 0) same)
 
 pub unwritten-device : (number : ℕ) (error : WriteError) → unwritten number error ≡ splice.Device → error ≡ write.Device
 unwritten-device number write.FramesLimit is = cc
@@ -33,26 +38,10 @@ unwritten-device number write.OutputLimit is = cc
 unwritten-device number write.Device is = refl
 unwritten-device number write.NoMemory is = cc
 
-pub error_of-device : (number : ℕ) (error : InputError) → error_of number error ≡ splice.Device
+error_of-device : (number : ℕ) (error : InputError) → error_of number error ≡ splice.Device
     → error ≡ input.Write write.Device
 error_of-device number (input.Fault fault) is = cc
 error_of-device number (input.Write error) is = ap input.Write (unwritten-device number error is)
-
--- the input that is named is the one of the number
-pub unwritten-within : (number inputs : ℕ) (error : WriteError) → number < inputs → IsOfInputs inputs (unwritten number error)
-unwritten-within number inputs write.FramesLimit within = tt
-unwritten-within number inputs (write.Clash class) within = within
-unwritten-within number inputs write.OutputLimit within = tt
-unwritten-within number inputs write.Device within = tt
-unwritten-within number inputs write.NoMemory within = tt
-
-pub error_of-within : (number inputs : ℕ) (error : InputError) → number < inputs → IsOfInputs inputs (error_of number error)
-error_of-within number inputs (input.Fault fault) within = within
-error_of-within number inputs (input.Write error) within = unwritten-within number inputs error within
-
-pub refused-within : (inputs : ℕ) (error : ShelfError) → IsOfInputs inputs (refused error)
-refused-within inputs shelf.Failed = tt
-refused-within inputs shelf.NoMemory = tt
 
 -- ---- the shelf
 
@@ -63,7 +52,8 @@ rose-before old middle new before rose = omega (arith, before, rose)
 -- an input was not written to its end
 pub leaves-input : (old middle new : Outside) (to : List ℕ) (inputs all number slot after : ℕ) (error : InputError)
     → IsMade old middle to inputs slot → IsMade old new to inputs after → inputs ≤ all
-    → (◌≡◌ {A = Result (Unit {0}) InputError} (Err error) (Err (input.Write write.Device)) → Rose middle.faults new.faults)
+    → (◌≡◌ {A = Result (Unit {0}) InputError} (Err error) (Err (input.Write write.Device))
+    → Rose middle.faults new.faults)
     → LeavesShelf old new to all (Err (error_of number error))
 leaves-input old middle new to inputs all number slot after error before made few device = record {
   shelf = one-made old new to inputs all after made.bytes made.made few;

@@ -1,9 +1,7 @@
 -- Inputs one after another: what stands after each, and what is due where one of them ends a splice.
-use Rattle.std.proofs.Common.{◌≡◌, ◌≢◌, ℕ, ◌+◌, ◌-◌, ◌<◌, ◌≤◌, ◌⊎◌, inl, inr, List, [], ◌∷◌, ◌++◌, length, take, drop, map, All}
-use Rattle.std.proofs.Common.{Bool, true, false, cond, is_none, bytes_eq, IsErrOf, Option, Some, None, option_map, Result, Ok, Err, IfSome}
-use Rattle.std.proofs.Common.{refl, sym, ap, ◌∙◌, subst, arith}
-use Rattle.std.specs.List.{AllZip}
-use Rattle.std.proofs.lemmas.Bool.{false≢true}
+use Rattle.std.proofs.Common.{◌≡◌, ◌≢◌, ℕ, ◌+◌, ◌<◌, ◌≤◌, ◌⊎◌, inl, inr, List, [], ◌∷◌, ◌++◌, length, take, drop}
+use Rattle.std.proofs.Common.{All, Bool, true, false, cond, is_none, bytes_eq, IsErrOf, Option, Some, None, option_map}
+use Rattle.std.proofs.Common.{Result, Ok, Err, IfSome, refl, sym, ap, ◌∙◌, subst, arith}
 use Rattle.std.proofs.lemmas.List.{drop-drop, take_all}
 use Rattle.std.proofs.lemmas.List.Elements.{All-head, All-drop, All-weaker, All-from_recursion}
 use Rattle.std.proofs.lemmas.Option.{IfSome_then, none-some}
@@ -14,20 +12,17 @@ use Rattle.frame_outside.specs.Counts.{counted}
 use Rattle.frame_outside.specs.Shelf.{Outside, Files, Told, Refuses, Opens, holding}
 use Rattle.frame_outside.specs.declared.traits.ShelfError.{ShelfError}
 use Rattle.frame_outside.specs.declared.traits.ShelfError.TheVariants as shelf
-use Rattle.item_reader.specs.Reader.{file_of}
-use Rattle.file_grammar.specs.declared.fault.Fault.{Fault}
 use Rattle.frame_content.specs.Frames.{Frame}
 use Rattle.canonical_file.specs.declared.closing.Closing.{Closing}
 use Rattle.canonical_file.specs.Contents.{Content}
 use Rattle.canonical_file.specs.Ranges.{AreBytes}
-use Rattle.canonical_file.specs.Written.{begun, after_frames, closing_part, canonical_head, canonical_file}
+use Rattle.canonical_file.specs.Written.{canonical_head}
 use Rattle.canonical_laws.specs.Content.{closing_by, HasContent}
 use Rattle.canonical_laws.specs.Sources.{printed_entries}
 use Rattle.canonical_laws.specs.Writable.{IsWritableEntry, IsWritableElement, IsWritableClosing, IsWritableTable}
 use Rattle.canonical_laws.proofs.Sources.{source_closing}
 use Rattle.canonical_writer.specs.declared.errors.WriteError.{WriteError}
 use Rattle.canonical_writer.specs.declared.errors.WriteError.TheVariants as write
-use Rattle.canonical_writer.specs.declared.writer.Summary.{Summary}
 use Rattle.canonical_writer.specs.Parts.{IsShortElement, IsShortEntry, IsShortClosing}
 use Rattle.canonical_writer.specs.Writer.{Writer}
 use Rattle.splicer.specs.declared.errors.InputError.{InputError}
@@ -35,11 +30,11 @@ use Rattle.splicer.specs.declared.errors.InputError.TheVariants as input
 use Rattle.splicer.specs.declared.errors.SpliceError.{SpliceError}
 use Rattle.splicer.specs.declared.errors.SpliceError.TheVariants as splice
 use Rattle.splicer.specs.Errors.{unwritten, error_of}
-use Rattle.splicer.specs.Due.{Due, Writes, Stops, Next, HoldBytes, IsDueOf, IsDueOfHeld, IsDueFrom, held_then, answer_of}
-use Rattle.splicer.specs.Due.{IsAnswer, Leaves, has_failed, is_whole, output_of}
+use Rattle.splicer.specs.Due.{Due, Stops, Next, IsDueOf, IsDueOfHeld, IsDueFrom, held_then, answer_of, IsAnswer}
+use Rattle.splicer.specs.Due.{has_failed, is_whole, output_of}
 use Rattle.splicer.specs.Left.{LeavesFile, LeavesPart}
 use Rattle.splicer.specs.Made.{HasMade}
-use Rattle.splicer.specs.Put.{HasWritten, Comes, Puts, PutsAll, PutsPart, PutsUntilRefusal}
+use Rattle.splicer.specs.Put.{Comes, Puts, PutsAll, PutsPart, PutsUntilRefusal}
 use Rattle.splicer.specs.Spliced.{TellsFiles, HasOpened, HasSpliced, Ends}
 use Rattle.splicer.proofs.Dues.{frames_of, due-refused, due-faulty, due-next, due-longer, due-begun}
 use Rattle.splicer.proofs.Making.{made-opens, opened-held}
@@ -140,14 +135,14 @@ ends-stopped files old new to inputs slot stood due error told unfailed is made 
 -- ---- names
 
 -- an input is not the file that is written
-pub name-apart : (files : Files) (names : List (List ℕ)) (old : Outside) (to name : List ℕ) (others : List (List ℕ))
+name-apart : (files : Files) (names : List (List ℕ)) (old : Outside) (to name : List ℕ) (others : List (List ℕ))
     (number : ℕ) → TellsFiles files names old to → drop number names ≡ name ∷ others → name ≢ to
 name-apart files names old to name others number tells names_are =
     let P : List ℕ → Type 0 = λ name. name ≢ to in
     All-head P name others (subst (All P) names_are (All-drop P number names tells.apart))
 
 -- the inputs after one
-pub names-after : (names : List (List ℕ)) (name : List ℕ) (others : List (List ℕ)) (number : ℕ)
+names-after : (names : List (List ℕ)) (name : List ℕ) (others : List (List ℕ)) (number : ℕ)
     → drop number names ≡ name ∷ others → others ≡ drop (number + 1) names
 names-after names name others number names_are = sym (ap (drop 1) names_are) ∙ drop-drop 1 number names
 
@@ -163,7 +158,7 @@ missed-due (Some file) old middle new closing stood number next due is same miss
     absurd (omega (arith, same, missed, more))
 
 -- a file of another name is held as it was
-pub held-apart : (to name bytes : List ℕ) (files : Files) → name ≢ to → holding to bytes files name ≡ files name
+held-apart : (to name bytes : List ℕ) (files : Files) → name ≢ to → holding to bytes files name ≡ files name
 held-apart to name bytes files apart = by (bytes_eq to name) refl
   where
     by : (b : Bool) → bytes_eq to name ≡ b → cond b (Some bytes) (files name) ≡ files name
@@ -176,8 +171,8 @@ pub ends-unopened : (files : Files) (old new : Outside) (to name : List ℕ) (na
     → IsDueFrom files None [] 0 (name ∷ names) due → Ends files old new to due (Err error)
 ends-unopened files old new to name names due error told failed refuses is =
     ends-failed files old new to due error failed (inl (refuses.files ∙ told))
-    (missed-due (files name) old old new None [] 0 (λ closing stood due. IsDueFrom files closing stood 1 names due) due is
-    refl (refuses.missed files told))
+    (missed-due (files name) old old new None [] 0 (λ closing stood due. IsDueFrom files closing stood 1 names due) due
+    is refl (refuses.missed files told))
 
 -- a further one was not opened
 pub ends-refused : (files : Files) (names : List (List ℕ)) (old middle new : Outside) (to name : List ℕ)
@@ -271,7 +266,8 @@ pub opened-first_comes : (files : Files) (names : List (List ℕ)) (old now : Ou
     (w : Writer) (opened : HasOpened files names old now to 0 slot w)
     → Comes opened.input opened.stood old now to 1 true w
 opened-first_comes files names old now to slot w opened =
-    opened-comes files names old now to 0 slot true w opened (sym (ap (λ (c : Option Closing). is_none c) (opened.first refl)))
+    opened-comes files names old now to 0 slot true w opened
+    (sym (ap (λ (c : Option Closing). is_none c) (opened.first refl)))
 
 -- what is due of it and those after it
 abbrev DueNext : Files → List (List ℕ) → ℕ → Next

@@ -1,5 +1,5 @@
 -- What is written of an input, frame after frame.
-use Rattle.std.specs.Prelude.{◌≡◌, ℕ, ◌≤◌, ◌⊎◌, Bool, List, [], take, Option, Some, None, is_none, Result, Ok, Err}
+use Rattle.std.specs.Prelude.{◌≡◌, ℕ, ◌≤◌, ◌⊎◌, Bool, List, [], take, Option, None, is_none, Result, Ok, Err}
 use Rattle.std.specs.List.{AllZip}
 use Rattle.scalar_types.specs.declared.Order.{Order}
 use Rattle.frame_outside.specs.Shelf.{Outside, IsTarget}
@@ -23,7 +23,7 @@ use Rattle.canonical_writer.specs.Writer.{Writer}
 use Rattle.item_reader.specs.Reader.{Reader, Reads, file_of}
 use Rattle.splicer.specs.declared.errors.InputError.{InputError}
 use Rattle.splicer.specs.declared.errors.InputError.TheVariants as input
-use Rattle.splicer.specs.Due.{Course, Passes, Refuses, course, frames_among, Gives, Breaks, held_then}
+use Rattle.splicer.specs.Due.{Passes, Refuses, course, frames_among, Gives, Breaks, held_then}
 use Rattle.splicer.specs.Made.{HasMade}
 
 -- A writer has written these frames, and no others, to the file of a name.

@@ -1,6 +1,6 @@
 -- What is written of a splice, input after input.
-use Rattle.std.specs.Prelude.{◌≡◌, ◌≢◌, ℕ, ◌+◌, ◌<◌, ◌≤◌, List, [], ◌∷◌, length, drop, All, Option, Some, None, IfSome}
-use Rattle.std.specs.Prelude.{Result, Ok, Err}
+use Rattle.std.specs.Prelude.{◌≡◌, ◌≢◌, ℕ, ◌+◌, ◌<◌, ◌≤◌, List, [], ◌∷◌, length, drop, All, Some, None, IfSome, Result}
+use Rattle.std.specs.Prelude.{Ok, Err}
 use Rattle.frame_outside.specs.Counts.{Rose}
 use Rattle.frame_outside.specs.Shelf.{Outside, Files}
 use Rattle.item_reader.specs.Reader.{file_of}
@@ -71,9 +71,10 @@ PutsInputs files names old new to w (Err error) =
 
 -- ---- on any shelf
 
--- A splice has ended so: beside the counts, the inputs opened and the one file, the shelf is as it was; and the shelf is
--- said to have failed only where it has.
-pub record LeavesShelf (old new : Outside) (to : List ℕ) (inputs : ℕ) (result : Result Summary SpliceError) : Type 0 where
+-- The splice has ended with this answer: but for the counts, the inputs opened and the one file the shelf is as it was,
+-- and it is said to have failed only where it has.
+pub record LeavesShelf (old new : Outside) (to : List ℕ) (inputs : ℕ) (result : Result Summary SpliceError)
+    : Type 0 where
   pub shelf : WritesOneFile old new to inputs
   pub device : result ≡ Err splice.Device → Rose old.faults new.faults
 

@@ -1,6 +1,7 @@
 //! Splices: the frames of files in one canonical file, with the closing of the first.
 
-ghost use Rattle.std.specs.Prelude.{◌≡◌, ◌≢◌, ◌<◌, ◌≤◌, ◌^◌, ℕ, List, [], All, map, length, None, Err, OnOk, IfErr, IsSome};
+ghost use Rattle.std.specs.Prelude.{◌≡◌, ◌≢◌, ◌<◌, ◌≤◌, ◌^◌, ℕ, List, [], All, map, length, None, Err};
+ghost use Rattle.std.specs.Prelude.{OnOk, IfErr, IsSome};
 ghost use Rattle.std.specs.String.{string_bytes};
 ghost use Rattle.frame_outside.specs.Counts.{Rose};
 ghost use Rattle.frame_outside.specs.Shelf.{Outside, Files, Told, IsSource, IsTarget, reading_at};
@@ -15,8 +16,8 @@ use canonical_writer::{CanonWriter, Summary};
 use frame_outside::Shelf;
 use std::alloc::Global;
 
-/// Writes the canonical file of the frames of all inputs, one input after another, with the closing of the first, to the
-/// file of a name.
+/// Writes the canonical file of the frames of all inputs, one input after another, with the closing of the first, to
+/// the file of a name.
 pub fn splice<S: Shelf>(
     alloc: Global,
     shelf: &mut S,

@@ -1,15 +1,16 @@
 -- Each input by the lemma of its name.
-use Rattle.std.proofs.Common.{◌≡◌, ℕ, ◌+◌, ◌≤◌, ◌<◌, List, ◌∷◌, length, map, drop, string_bytes, inl, inr, refl, sym, ap, arith, subst, is_none, Option, false, rules}
+use Rattle.std.proofs.Common.{◌≡◌, ◌+◌, length, map, string_bytes, inl, inr, refl, sym, ap, arith, subst, is_none}
+use Rattle.std.proofs.Common.{Option, false}
 use Rattle.std.proofs.lemmas.List.{length-map}
 use Rattle.std.proofs.lemmas.Result.{err_from_is_err_and}
 use Rattle.canonical_file.specs.declared.closing.Closing.{Closing}
 use Rattle.splicer.specs.Made.{IsMade}
 use Rattle.splicer.specs.Spliced.{HasSpliced}
 use Rattle.splicer.proofs.Making.{made-opens}
-use Rattle.splicer.proofs.Splicing.{opened-first_comes, opened-next, opened-comes, opened-ends, opened-written, ends-refused}
+use Rattle.splicer.proofs.Splicing.{opened-first_comes, opened-next, opened-comes, opened-ends, opened-written}
+use Rattle.splicer.proofs.Splicing.{ends-refused}
 use Rattle.splicer.proofs.SpliceErrors.{refused-failed, leaves-input, leaves-refused}
 use Rattle.splicer.proofs.FirstInput.{names-at, opened-beginning, opened-target}
-use Rattle.splicer.proofs.SpliceEnds.{spliced-ends}
 use Rattle.frame_outside.proofs.Slots.{IsSource-opens}
 use Rattle.splicer.proofs.splices.put_inputs.Goals as goal
 
@@ -74,7 +75,8 @@ returns-in-Err-put_input-clause-puts g c = λ old to files first due is.
     c.source.result spliced names c.source.ensures.missing c.in_ok-slot.was c.in_ok-slot.ensures.ok (omega arith) in
     let comes = opened-comes files _ old _ to n c.in_ok-slot.slot false c.inputs.writer opened
     (sym (ap (λ (c : Option Closing). is_none c) spliced.closing_is)) in
-    let puts = c.in-Err-put_input.ensures.puts old to (n + 1) opened.stood opened.input opened.opened opened.past comes in
+    let puts = c.in-Err-put_input.ensures.puts old to (n + 1) opened.stood opened.input opened.opened opened.past
+    comes in
     rw c.of_input-in-Err-put_input.ensures (opened-ends files _ old _ _ to n c.in_ok-slot.slot c.inputs.writer
     c.put_input-in-inputs.new.writer c.in-Err-put_input.error opened puts due is)
 

@@ -1,8 +1,6 @@
 -- All inputs are written, and then the file is ended.
-use Rattle.std.proofs.Common.{◌≡◌, ℕ, ◌≤◌, List, length, map, string_bytes, Result, Ok, Err, arith, refl, sym, ap}
+use Rattle.std.proofs.Common.{length, map, string_bytes, Ok, Err}
 use Rattle.std.proofs.lemmas.Result.{err_from_is_err_and}
-use Rattle.canonical_writer.specs.declared.errors.WriteError.{WriteError}
-use Rattle.canonical_writer.specs.declared.writer.Summary.{Summary}
 use Rattle.splicer.proofs.SpliceEnds.{spliced-ends, leaves-ended}
 use Rattle.splicer.proofs.splices.splice_into.Goals as goal
 
