@@ -16,7 +16,7 @@ use Rattle.frame_tool.specs.declared.judgement.Report.TheVariants.{Summary, Chan
 use Rattle.frame_tool.specs.Words.{Form, WalkFile, command_of, output_of}
 use Rattle.frame_tool.specs.Outcome.{line_of}
 use Rattle.frame_tool.specs.Due.{Reply, Output, Nothing, IsFileDue, IsCommandDue, IsAnswer, IsAmong, Prints}
-use Rattle.frame_tool.specs.Due.{AppendsFront, reply_with, walk_reply, finding_reply, form_asking}
+use Rattle.frame_tool.specs.Due.{AppendsFront, walk_reply, finding_reply, form_asking}
 use Rattle.frame_tool.specs.Walk.{IsVerdict}
 use Rattle.frame_tool.specs.WalkSteps.{ReadsOneFile}
 use Rattle.frame_tool.specs.Check.{IsFinding}
@@ -86,7 +86,7 @@ among_due outcome due command (inr (inr full)) may =
     let P : Outcome → Type 0 = λ answer. IsAmong answer command in
     subst P (sym full) tt
 
--- what is due by a verdict, and by what is found
+-- the answer to a verdict, and to what is found
 walk_among : (name : List ℕ) (verdict : Verdict) → IsAmong (walk_reply verdict).outcome (Some (WalkFile name))
 walk_among name (Sound order count) = tt
 walk_among name (Wrong at reason) = (refl, refl)
@@ -107,6 +107,7 @@ pub record AnswersOn (A : Type 0) (is : List ℕ → A → Type 0) (reply_of : A
   pub nothing : (a : A) → (reply_of a).output ≡ Nothing
   pub unwritten : output_of (Some form) ≡ None
 
+-- `walk` by the verdict
 pub walk_answers : (name : List ℕ) → AnswersOn Verdict IsVerdict walk_reply (WalkFile name)
 walk_answers name =
     record { alone = no_two_verdicts; among = walk_among name; nothing = nothing; unwritten = refl }
@@ -115,6 +116,7 @@ walk_answers name =
     nothing (Sound order count) = refl
     nothing (Wrong at reason) = refl
 
+-- `check` and `list` by what is found
 pub report_answers : (report : Report) (name : List ℕ)
     → AnswersOn Finding IsFinding (finding_reply report) (form_asking report name)
 report_answers report name = record {
@@ -132,6 +134,7 @@ report_answers report name = record {
     unwritten Summary = refl
     unwritten Channels = refl
 
+-- the reply to what was found is due
 due_by : {A : Type 0} (is : List ℕ → A → Type 0) (reply_of : A → Reply) (held : Option (List ℕ)) (a : A)
     → Told held (λ file. is file a) → (held ≡ None → ⊥) → IsFileDue is reply_of held (reply_of a)
 due_by is reply_of None a told missing = absurd (missing refl)
@@ -290,5 +293,6 @@ runs_by words command count old new before after outcome same few replies =
     Replies (λ files reply. IsCommandDue files form reply) form (length words) old new before after outcome in
     subst P same (more_words _ command count (length words) old new before after outcome few replies)
 
+-- an answer that is Ok is no error
 pub no_error : {T E : Type 0} (value : T) (error : E) → IsErrOf (Ok value) error → ⊥
 no_error value error same = cc

@@ -18,6 +18,7 @@ pub record IsRead (words : List (List ℕ)) (to : List ℕ) (from : List (List �
   pub others : list_any (bytes_eq to) from ≡ false
   pub enough : length from + 2 ≤ length words
 
+-- files and an output that are none of them
 read_by : (words : List (List ℕ)) (out : List ℕ) (files : List (List ℕ)) (to : List ℕ) (from : List (List ℕ))
     → 0 < length files → length files < 2 ^ 32 → length files + 2 ≤ length words
     → apart out files ≡ Some (SpliceFiles to from) → IsRead words to from
@@ -33,6 +34,7 @@ read_by words out files to from some few enough is = by (list_any (bytes_eq out)
         let Q : List (List ℕ) → Type 0 = λ fs. IsRead words to fs in
         subst Q inputs (record { some = some; few = few; others = subst P outs tells; enough = enough })
 
+-- the words after `copy`
 copied_read : (first : List ℕ) (words : List (List ℕ)) (to : List ℕ) (from : List (List ℕ))
     → copied words ≡ Some (SpliceFiles to from) → IsRead (first ∷ words) to from
 copied_read first [] to from is = absurd cc
@@ -41,10 +43,12 @@ copied_read first (file ∷ out ∷ []) to from is =
     read_by (first ∷ file ∷ out ∷ []) out (file ∷ []) to from (omega arith) (omega arith) (omega arith) is
 copied_read first (file ∷ out ∷ more ∷ others) to from is = absurd cc
 
+-- a list that is not empty is of one or more
 some_files : {A : Type 0} (files : List A) → is_empty files ≡ false → 0 < length files
 some_files [] is = absurd (true≢false is)
 some_files (file ∷ files) is = omega arith
 
+-- the words after `splice`
 spliced_read : (first : List ℕ) (words : List (List ℕ)) (to : List ℕ) (from : List (List ℕ))
     → spliced words ≡ Some (SpliceFiles to from) → IsRead (first ∷ words) to from
 spliced_read first [] to from is = absurd cc
@@ -65,6 +69,7 @@ one_word : (form : List ℕ → Form) (splice : Form) (word : Option (List ℕ))
 one_word form splice None apart is = cc
 one_word form splice (Some file) apart is = apart file cc
 
+-- words that are a splice
 pub splice_read : (words : List (List ℕ)) (to : List ℕ) (from : List (List ℕ))
     → command_of words ≡ Some (SpliceFiles to from) → IsRead words to from
 splice_read [] to from is = absurd cc

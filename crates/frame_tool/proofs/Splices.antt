@@ -1,6 +1,6 @@
 -- What a run of a splice does, by what the splice of the files did and what was printed.
-use Rattle.std.proofs.Common.{◌≡◌, ℕ, ◌+◌, ◌<◌, Bool, true, false, List, [], length, take, Option, Some, Result, Ok, Err}
-use Rattle.std.proofs.Common.{IfErr, is_ok, inl, inr, ◌⊎◌, refl, sym, ap, ◌∙◌, subst, arith}
+use Rattle.std.proofs.Common.{◌≡◌, ℕ, ◌+◌, ◌<◌, Bool, true, false, List, [], length, take, Option, Some, Result, Ok}
+use Rattle.std.proofs.Common.{Err, IfErr, is_ok, inl, inr, ◌⊎◌, refl, sym, ap, ◌∙◌, subst, arith}
 use Rattle.std.proofs.lemmas.Bool.{false≢true}
 use Rattle.std.proofs.lemmas.List.{take_all}
 use Rattle.std.proofs.Math.Seq.{take-nil}
@@ -19,7 +19,7 @@ use Rattle.frame_tool.specs.declared.outcome.Outcome.{Outcome}
 use Rattle.frame_tool.specs.declared.outcome.Outcome.TheVariants.{Done, Device, NoMemory}
 use Rattle.frame_tool.specs.Words.{SpliceFiles}
 use Rattle.frame_tool.specs.Outcome.{line_of, spliced}
-use Rattle.frame_tool.specs.Due.{Reply, IsSpliceDue, IsAnswer, IsAmong, Prints, AppendsFront, splice_reply}
+use Rattle.frame_tool.specs.Due.{Reply, IsSpliceDue, IsAnswer, IsAmong, Prints, AppendsFront}
 use Rattle.frame_tool.specs.Run.{Leaves, Replies, has_failed}
 use Rattle.frame_tool.proofs.Replies.{among_due, prints_faults}
 
@@ -37,19 +37,21 @@ pub record HasSpliced (old new : Outside) (to : List ℕ) (from : List (List ℕ
 
 -- ---- the answer
 
--- what was answered where an answer was due that stands for another is an answer for that other
+-- an answer for one that is itself an answer for another
 answer_on : (outcome said due : Outcome) → IsAnswer outcome said → IsAnswer said due → IsAnswer outcome due
 answer_on outcome said due (inl same) (inl also) = inl (same ∙ also)
 answer_on outcome said due (inl same) (inr (inl device)) = inr (inl (same ∙ device))
 answer_on outcome said due (inl same) (inr (inr full)) = inr (inr (same ∙ full))
 answer_on outcome said due (inr failed) also = inr failed
 
+-- the answer of a splice is one for the splice that is due
 spliced_answer : (result : Result Summary SpliceError) (due : Due) → SpliceDue.IsAnswer result due
     → IsAnswer (spliced result) (spliced (answer_of due))
 spliced_answer result due (inl same) = inl (ap spliced same)
 spliced_answer result due (inr (inl device)) = inr (inl (ap spliced device))
 spliced_answer result due (inr (inr full)) = inr (inr (ap spliced full))
 
+-- the answer of a splice is one of the command's
 spliced_among : (result : Result Summary SpliceError) (to : List ℕ) (from : List (List ℕ))
     → IfErr result (IsOfInputs (length from)) → IsAmong (spliced result) (Some (SpliceFiles to from))
 spliced_among (Ok summary) to from inputs = tt
@@ -67,7 +69,7 @@ front_of_none : (text : List ℕ) (before after : Printed) → AppendsFront befo
 front_of_none text before after front =
     record { count = 0; appends = subst (Appends before after) (take-nil front.count) front.appends }
 
--- so where the outside or memory failed, it is enough that a front of no text was printed
+-- where the outside or memory failed, and a front of no text was printed, a front of each text was
 prints_any : (outcome : Outcome) (text : List ℕ) (before after : Printed) → (outcome ≡ Device) ⊎ (outcome ≡ NoMemory)
     → Prints outcome [] before after → Prints outcome text before after
 prints_any outcome text before after (inl device) =
@@ -77,18 +79,19 @@ prints_any outcome text before after (inr full) =
     let P : Outcome → Type 0 = λ o. Prints o [] before after → Prints o text before after in
     subst P (sym full) (front_of_none text before after)
 
--- an answer that an answer stands for is of those of the outside and memory, where that one is
+-- an answer for Device or NoMemory is Device or NoMemory
 failed_on : (outcome said : Outcome) → IsAnswer outcome said → (said ≡ Device) ⊎ (said ≡ NoMemory)
     → (outcome ≡ Device) ⊎ (outcome ≡ NoMemory)
 failed_on outcome said (inl same) (inl device) = inl (same ∙ device)
 failed_on outcome said (inl same) (inr full) = inr (same ∙ full)
 failed_on outcome said (inr failed) also = failed
 
+-- these print no line
 no_line : (outcome : Outcome) → (outcome ≡ Device) ⊎ (outcome ≡ NoMemory) → line_of outcome ≡ []
 no_line outcome (inl device) = ap line_of device
 no_line outcome (inr full) = ap line_of full
 
--- the line of an answer that stands for another was printed as that of the other
+-- the line of an answer for the due one was printed as that of the due one
 prints_on : (outcome said due : Outcome) (before after : Printed) → IsAnswer outcome said → IsAnswer said due
     → Prints outcome (line_of said) before after → Prints outcome (line_of due) before after
 prints_on outcome said due before after answers (inl same) prints =
@@ -101,6 +104,7 @@ prints_on outcome said due before after answers (inr failed) prints =
 
 -- ---- what is written
 
+-- an answer is Device or NoMemory where that of the splice is
 failed_alike : (result : Result Summary SpliceError) → has_failed (spliced result) ≡ SpliceDue.has_failed result
 failed_alike (Ok summary) = refl
 failed_alike (Err (splice.Fault file fault)) = refl
@@ -110,6 +114,7 @@ failed_alike (Err splice.OutputLimit) = refl
 failed_alike (Err splice.Device) = refl
 failed_alike (Err splice.NoMemory) = refl
 
+-- these say that the outside or memory failed
 failed_outcome : (outcome : Outcome) → (outcome ≡ Device) ⊎ (outcome ≡ NoMemory) → has_failed outcome ≡ true
 failed_outcome outcome (inl device) = ap has_failed device
 failed_outcome outcome (inr full) = ap has_failed full
@@ -138,6 +143,7 @@ leaves_part false files new to whole bytes begun leaves =
       files_are = leaves ∙ ap (λ b. Some (holding to b files)) (sym all);
     })
 
+-- what a splice leaves is what its answer has to leave
 leaves_on : (result : Result Summary SpliceError) (due : Due) (outcome : Outcome) (files : Files) (new : Option Files)
     (to : List ℕ) → IsAnswer outcome (spliced result) → SpliceDue.IsAnswer result due
     → (is_ok result ≡ true → outcome ≡ Done) → SpliceDue.Leaves files new to result due
@@ -154,6 +160,7 @@ leaves_on result due outcome files new to (inr failed) is done leaves =
 
 -- ---- the run
 
+-- a splice that was stopped was not written whole
 pub not_ok : (result : Result Summary SpliceError) (error : SpliceError) → result ≡ Err error → is_ok result ≡ true → ⊥
 not_ok result error is ok = false≢true (sym (ap is_ok is) ∙ ok)
 

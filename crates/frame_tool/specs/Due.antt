@@ -1,5 +1,5 @@
--- The reply that is due to words over files: the answer, and the text that is printed.
-use Rattle.std.specs.Prelude.{◌≡◌, ℕ, ◌<◌, Bool, true, false, List, ◌++◌, length, codes, Option, Some, None, ◌⊎◌, ⊤, take}
+-- The reply that is due to words over files: the answer, the text that is printed, and what is written.
+use Rattle.std.specs.Prelude.{◌≡◌, ℕ, ◌<◌, Bool, List, ◌++◌, length, codes, Option, Some, None, ◌⊎◌, ⊤, take}
 use Rattle.std.specs.Fmt.{decimal}
 use Rattle.scalar_types.specs.declared.Order.{Order}
 use Rattle.scalar_types.specs.declared.Order.TheVariants.{Big, Little}
@@ -9,12 +9,12 @@ use Rattle.file_content.specs.declared.state.TableState.TheVariants as state
 use Rattle.frame_outside.specs.Shelf.{Files}
 use Rattle.frame_outside.specs.Sink.{Output as Printed, Appends}
 use Rattle.frame_tool.specs.declared.outcome.Outcome.{Outcome}
-use Rattle.frame_tool.specs.declared.outcome.Outcome.TheVariants.{Done, Fault, Clash, FramesLimit, OutputLimit, Usage, Device, NoMemory}
+use Rattle.frame_tool.specs.declared.outcome.Outcome.TheVariants.{Done, Fault, Clash, FramesLimit, OutputLimit}
+use Rattle.frame_tool.specs.declared.outcome.Outcome.TheVariants.{Usage, Device, NoMemory}
 use Rattle.frame_tool.specs.declared.verdict.Verdict.{Verdict}
 use Rattle.frame_tool.specs.declared.verdict.Verdict.TheVariants.{Sound, Wrong}
 use Rattle.splicer.specs.Due.{Due, HoldBytes, answer_of, is_whole, output_of}
 use Rattle.splicer.specs.Due as SpliceDue
-use Rattle.splicer.specs.Left.{LeavesFile}
 use Rattle.frame_tool.specs.Outcome.{line_of, spliced}
 use Rattle.frame_tool.specs.Words.{Form, WalkFile, CheckFile, ListFile, SpliceFiles, command_of}
 use Rattle.frame_tool.specs.declared.judgement.Finding.{Finding}

@@ -21,7 +21,8 @@ abbrev pub Leaves : Files → Option Files → Outcome → Output → Type 0
 Leaves files new outcome Nothing = new ≡ Some files
 Leaves files new outcome (Bytes to whole bytes) = LeavesFile (has_failed outcome) files new to whole bytes
 
--- The slots that were given before and the files stay, but for the file that is written: no such slot writes it any more.
+-- The slots that were given before and the files stay, but for the file that is written: no such slot writes it any
+-- more.
 abbrev pub Keeps : Option (List ℕ) → Outside → Outside → Type 0
 Keeps None old new = (take (length old.slots) new.slots ≡ old.slots) × (new.files ≡ old.files)
 Keeps (Some to) old new = KeepsSlots old new to × KeepsFiles old new to
@@ -29,8 +30,8 @@ Keeps (Some to) old new = KeepsSlots old new to × KeepsFiles old new to
 -- A command of so many words, to which this is due, was run from an outside and a sink to those after it, and answered.
 pub record Replies (IsDueTo : Files → Reply → Type 0) (command : Option Form) (words : ℕ) (old new : Outside)
     (before after : Printed) (outcome : Outcome) : Type 0 where
-  -- over a shelf that tells its files: the answer is the due one, or Device or NoMemory; the text is printed, and the file
-  -- is written, as they are due; and a name that is not held is asked for only where Device is due
+  -- over a shelf that tells its files: the answer is the due one, or Device or NoMemory; the text is printed, and the
+  -- file is written, as they are due; and a name that is not held is asked for only where Device is due
   pub answer : Told old.files (λ files. (reply : Reply) → IsDueTo files reply → IsAnswer outcome reply.outcome)
   pub text : Told old.files (λ files. (reply : Reply) → IsDueTo files reply → Prints outcome reply.text before after)
   pub output : Told old.files (λ files. (reply : Reply) → IsDueTo files reply

@@ -1,5 +1,6 @@
 -- The words of the command line. A command that is not built yet is none.
-use Rattle.std.specs.Prelude.{List, [], ◌∷◌, ℕ, length, map, nat_le, codes, ◌||◌, ◌^◌, option_map, Option, Some, None, if◌then◌else◌}
+use Rattle.std.specs.Prelude.{List, [], ◌∷◌, ℕ, ◌^◌, length, map, nat_le, codes, ◌||◌, if◌then◌else◌}
+use Rattle.std.specs.Prelude.{option_map, Option, Some, None}
 use Rattle.file_grammar.specs.Fault.{is_empty}
 use Rattle.std.specs.List.{list_any}
 use Rattle.std.specs.Str.{bytes_eq}

@@ -18,9 +18,9 @@ use std::alloc::Global;
 
 /// Does all that the words ask for: reads and writes the shelf, prints to the sink, and answers.
 ///
-/// An input is opened before anything is made or printed, and the text is printed in one piece. The sink then holds what it
-/// held and the text that is due, or after `Device` and `NoMemory` a front of it; the file that is written holds what is
-/// due to it, or after these what it held or a part of that.
+/// An input is opened before anything is made or printed, and the text is printed in one piece. The sink then
+/// holds what it held and the text that is due, or after `Device` and `NoMemory` a front of it; the file that is
+/// written holds what is due to it, or after these what it held or a part of that.
 pub fn run<S: Shelf, O: Sink>(
     alloc: Global,
     words: &[String],

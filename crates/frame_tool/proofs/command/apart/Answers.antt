@@ -1,5 +1,5 @@
 -- Whether one of the files is the output.
-use Rattle.std.proofs.Common.{◌≡◌, Bool, Option, None, Some, string_bytes, bytes_eq, sym, ◌∙◌, rules, tests}
+use Rattle.std.proofs.Common.{None, Some, string_bytes, bytes_eq, sym, ◌∙◌, rules, tests}
 use Rattle.std.proofs.lemmas.Bool.{cond-true, cond-false}
 use Rattle.std.proofs.lemmas.Iterator.{YieldsList-from_slice}
 use Rattle.std.proofs.lemmas.Iterator.Search.{any_from_yields_List}
