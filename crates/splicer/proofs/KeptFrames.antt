@@ -1,12 +1,11 @@
--- The frames that stand between two inputs: none before the first, and spliced ones after it. So no part of their head is
--- well-formed.
+-- The frames that stand between two inputs: none before the first, and spliced ones after it. So no part of their head
+-- is well-formed.
 use Rattle.std.proofs.Common.{◌≡◌, ℕ, ◌≤◌, inl, inr, List, [], ◌∷◌, ◌++◌, length, take, Option, Some, None}
-use Rattle.std.proofs.Common.{refl, sym, ap, ◌∙◌, subst, zero-add}
+use Rattle.std.proofs.Common.{sym, ap, ◌∙◌, subst, zero-add}
 use Rattle.std.proofs.lemmas.List.{append_assoc, append-nil}
 use Rattle.std.specs.List.{AllByRecursion, AllZip}
 use Rattle.dictionary.specs.declared.entries.Entry.{Entry}
 use Rattle.dictionary.specs.Dictionary.{IsDictionary}
-use Rattle.file_grammar.specs.declared.fault.Fault.{Fault}
 use Rattle.file_grammar.specs.Structure.{file_limit}
 use Rattle.file_grammar.specs.MayStand.{frames_limit}
 use Rattle.file_grammar.specs.Laws.{WellFormed}
@@ -16,7 +15,6 @@ use Rattle.canonical_file.specs.Ranges.{AreBytes}
 use Rattle.canonical_file.specs.Ordered.{IsInOrder}
 use Rattle.canonical_file.specs.Splices.{NoneClashes}
 use Rattle.canonical_file.specs.Written.{begun, after_frames, canonical_head}
-use Rattle.canonical_file.specs.Contents.{Content}
 use Rattle.canonical_file.proofs.Sizes.{head-size}
 use Rattle.canonical_laws.specs.Content.{HasContent}
 use Rattle.canonical_laws.specs.Writable.{IsWritableFrame}
@@ -43,10 +41,10 @@ pub record AreOfOne (fs : List Frame) : Type 0 where
   pub are : AllByRecursion (IsWritableFrame dictionary) fs
 
 -- no frames can
-pub none-of-one : AreOfOne []
+none-of-one : AreOfOne []
 none-of-one = record { dictionary = []; sound = none-held; are = tt }
 
--- so can the first frames of a file of bytes
+-- the first frames of a file of bytes can be written by one dictionary
 first-of-one : (file : List ℕ) (ordered : List Frame) → AreBytes file → AreFirst file ordered → AreOfOne ordered
 first-of-one file ordered bytes first = record {
   dictionary = printed_entries first.last.dictionary;
@@ -55,7 +53,7 @@ first-of-one file ordered bytes first = record {
       (source_frames file first.order first.items first.last bytes first.begins) first.in_order;
 }
 
--- and the frames that a file of bytes gives
+-- so can the frames that a file of bytes gives
 pub given-of-one : (file : List ℕ) (frames ordered : List Frame) (ending : Ending) → AreBytes file
     → Gives file frames ending → AllZip IsInOrder frames ordered → AreOfOne ordered
 given-of-one file frames ordered (Closes own) bytes gives in_order =
@@ -108,7 +106,7 @@ pub within-few : (fs : List Frame) → AreWithin fs → length fs ≤ frames_lim
 within-few fs within =
     subst (λ n. n ≤ frames_limit) (frames-counted begun fs ∙ zero-add (length fs)) within.few
 
--- and their head is short
+-- and their head is within the limit of files
 within-short : (fs : List Frame) → AreWithin fs → length (canonical_head fs) ≤ file_limit
 within-short fs within = subst (λ n. n ≤ file_limit) (sym (head-size fs)) within.short
 
@@ -174,10 +172,11 @@ taken-unfinished (Some closing) stood ordered then_stand are one taken =
     files-unfinished closing then_stand (more-of-files closing stood ordered then_stand are one taken) taken.within
 
 -- What stands after all frames of a well-formed input is kept.
-pub kept-then : (closing : Option Closing) (own : Closing) (file : List ℕ) (stood frames ordered then_stand : List Frame)
-    → AreBytes file → AreKept closing stood → HasContent file (record { closing = own; frames = frames })
-    → AllZip IsInOrder frames ordered → then_stand ≡ stood ++ ordered
-    → AreTaken closing stood ordered then_stand → AreKept (held_then closing own) then_stand
+pub kept-then : (closing : Option Closing) (own : Closing) (file : List ℕ)
+    (stood frames ordered then_stand : List Frame) → AreBytes file → AreKept closing stood
+    → HasContent file (record { closing = own; frames = frames }) → AllZip IsInOrder frames ordered
+    → then_stand ≡ stood ++ ordered → AreTaken closing stood ordered then_stand
+    → AreKept (held_then closing own) then_stand
 kept-then None own file stood frames ordered then_stand bytes none has in_order is taken = record {
   front = ordered;
   back = [];

@@ -1,7 +1,7 @@
 -- The frames that are taken after those that stand: they are the first ones, none of them clashes, and what stands then
 -- is within the limits.
 use Rattle.std.proofs.Common.{◌≡◌, ℕ, ◌≤◌, ◌<◌, nat_le, nat_lt, Bool, true, false, if◌then◌else◌}
-use Rattle.std.proofs.Common.{List, [], ◌∷◌, ◌++◌, length, Option, Some, None, Result, Ok, Err}
+use Rattle.std.proofs.Common.{List, [], ◌∷◌, ◌++◌, Option, Some, None, Result, Ok, Err}
 use Rattle.std.proofs.Common.{refl, sym, ap, ◌∙◌, subst, arith}
 use Rattle.std.proofs.lemmas.Bool.{ltb-false, leb-false}
 use Rattle.std.proofs.lemmas.List.{append_assoc, append-nil}
@@ -31,7 +31,7 @@ record IsTaken (closing : Option Closing) (w : Written) (f : Frame) : Type 0 whe
   free : clash_of closing w.entries f ≡ None
   short : (after_frame w f).size ≤ file_limit
 
--- so it is where no error is due
+-- a frame is taken where no error is due of it
 is-taken : (closing : Option Closing) (w : Written) (f : Frame) (x : Unit) → frame_due closing w f ≡ Ok x
     → IsTaken closing w f
 is-taken closing w f x due = by-full (nat_le frames_limit w.frames) refl due
@@ -70,7 +70,7 @@ pub record AreTaken (closing : Option Closing) (stood fs then_stand : List Frame
   pub free : NoneClashes closing (after_frames begun stood) more
   pub within : AreWithin then_stand
 
--- none is taken
+-- frames may come of which none is taken
 none-taken : (closing : Option Closing) (stood fs : List Frame) → AreWithin stood → AreTaken closing stood fs stood
 none-taken closing stood fs within = record {
   more = [];
@@ -81,7 +81,7 @@ none-taken closing stood fs within = record {
   within = within;
 }
 
--- one is taken, and then those
+-- where a frame does not clash and more are taken after it, it and they are taken
 one-taken : (closing : Option Closing) (stood fs then_stand : List Frame) (f : Frame)
     → clash_of closing (after_frames begun stood).entries f ≡ None
     → AreTaken closing (stood ++ f ∷ []) fs then_stand → AreTaken closing stood (f ∷ fs) then_stand

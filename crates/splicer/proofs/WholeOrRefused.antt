@@ -1,6 +1,6 @@
 -- What is due of a splice is a whole file, or no part of it is well-formed.
-use Rattle.std.proofs.Common.{◌≡◌, ℕ, ◌+◌, ◌≤◌, ◌<◌, nat_lt, Bool, true, false, if◌then◌else◌, List, [], ◌∷◌, ◌++◌}
-use Rattle.std.proofs.Common.{length, take, Option, Some, None, Ok, Err, refl, sym, ap, ◌∙◌, subst, arith}
+use Rattle.std.proofs.Common.{◌≡◌, ℕ, ◌+◌, ◌≤◌, ◌<◌, nat_lt, Bool, true, false, if◌then◌else◌, List, [], ◌∷◌}
+use Rattle.std.proofs.Common.{length, take, Option, Some, None, Ok, Err, refl, sym, subst, arith}
 use Rattle.std.proofs.lemmas.Bool.{ltb-false}
 use Rattle.std.specs.List.{AllZip}
 use Rattle.frame_outside.specs.Shelf.{Files}
@@ -12,7 +12,7 @@ use Rattle.canonical_file.specs.declared.closing.Closing.{Closing}
 use Rattle.canonical_file.specs.Ranges.{AreBytes}
 use Rattle.canonical_file.specs.Ordered.{IsInOrder}
 use Rattle.canonical_file.specs.Splices.{as_used}
-use Rattle.canonical_file.specs.Written.{Written, begun, after_frames, canonical_file}
+use Rattle.canonical_file.specs.Written.{begun, after_frames, canonical_file}
 use Rattle.canonical_laws.specs.Laws.{ReadsBack}
 use Rattle.canonical_laws.proofs.SplicedFrames.{no_part_of_a_spliced_file, spliced_back}
 use Rattle.canonical_writer.specs.declared.errors.WriteError.TheVariants as error
@@ -42,7 +42,7 @@ abbrev IsWholeOrNot : Due → Type 0
 IsWholeOrNot (Writes closing frames) = AreWhole closing frames
 IsWholeOrNot (Stops error frames) = IsUnfinished frames
 
--- at the end of all inputs
+-- at the end of all inputs a whole file is due, or, past the limit of files, a head of which no part is well-formed
 closed : (closing : Closing) (stood : List Frame) → AreOfFiles closing stood → AreWithin stood → (long : Bool)
     → nat_lt file_limit (size_with (after_frames begun stood) closing) ≡ long
     → IsWholeOrNot (closed_due (if long then Err error.OutputLimit
@@ -58,6 +58,7 @@ closed closing stood are within false is = record {
       (ltb-false file_limit (size_with (after_frames begun stood) closing) is);
 }
 
+-- so what is due at the end of all inputs is whole, or no part of it is
 at-end : (closing : Option Closing) (stood : List Frame) (due : Due) → AreKept closing stood → AreWithin stood
     → IsDueAtEnd closing stood due → IsWholeOrNot due
 at-end None stood due kept within is = absurd is
@@ -65,13 +66,13 @@ at-end (Some closing) stood due kept within is =
     subst IsWholeOrNot (sym is)
     (closed closing stood kept within (nat_lt file_limit (size_with (after_frames begun stood) closing)) refl)
 
--- so it is of the inputs after one
+-- what is due of the inputs after one is
 abbrev LaterAre : Next → Due → Type 0
 LaterAre next due =
     (closing : Option Closing) (stood : List Frame) → AreKept closing stood → AreWithin stood → next closing stood due
     → IsWholeOrNot due
 
--- after the frames of an input
+-- what is due after the frames of an input is, where that of the inputs after it is
 after-input : (file : List ℕ) (closing : Option Closing) (stood frames ordered : List Frame) (ending : Ending)
     (number : ℕ) (next : Next) (due : Due) → AreBytes file → AreKept closing stood → AreWithin stood
     → Gives file frames ending → AllZip IsInOrder frames ordered → LaterAre next due → (c : Course)
@@ -95,7 +96,7 @@ after-input file closing stood frames ordered ending number next due bytes kept 
         (passes-stood closing stood ordered then_stand came) taken)
         taken.within is
 
--- of an input that is held or not
+-- so what is due of an input that is held or not is
 of-held : (held : Option (List ℕ)) (closing : Option Closing) (stood : List Frame) (number : ℕ) (next : Next)
     (due : Due) → ((file : List ℕ) → held ≡ Some file → AreBytes file) → AreKept closing stood → AreWithin stood
     → LaterAre next due → IsDueOfHeld held closing stood number next due → IsWholeOrNot due
@@ -105,7 +106,7 @@ of-held (Some file) closing stood number next due bytes kept within later is =
     after-input file closing stood is.frames is.ordered is.ending number next due (bytes file refl) kept within is.gives
     is.in_order later (course closing stood is.ordered) refl is.is
 
--- of all inputs from one on
+-- and what is due of all inputs from one on is
 of-inputs : (files : Files) (names : List (List ℕ)) (closing : Option Closing) (stood : List Frame) (number : ℕ)
     (due : Due) → HoldBytes files → AreKept closing stood → AreWithin stood
     → IsDueFrom files closing stood number names due → IsWholeOrNot due
@@ -115,7 +116,7 @@ of-inputs files (name ∷ names) closing stood number due bytes kept within is =
     (λ held then_stand kept within next. of-inputs files names held then_stand (number + 1) due bytes kept within next)
     is
 
--- and so of a splice
+-- So what is due of a splice is a whole file, or no part of it is well-formed.
 whole-or-not : (files : Files) (names : List (List ℕ)) (due : Due) → IsDue files names due → IsWholeOrNot due
 whole-or-not files names due is =
     of-inputs files names None [] 0 due is.bytes refl (record { few = omega arith; short = omega arith }) is.from

@@ -74,8 +74,8 @@ NoPartIsWhole =
     (files : Files) (names : List (List ℕ)) (due : Due) (n : ℕ) → IsDue files names due
     → IsPart (is_whole due) n (output_of due) → WellFormed (take n (output_of due)) → ⊥
 
--- What is written whole is well-formed, and reads back as the closing of the first file and the frames of all files, each
--- class by the entry that is used first of it.
+-- What is written whole is well-formed, and reads back as the closing of the first file and the frames of all files,
+-- each class by the entry that is used first of it.
 abbrev pub WholeSplicesAreRead : Type 0
 WholeSplicesAreRead =
     (files : Files) (names : List (List ℕ)) (closing : Closing) (frames : List Frame)

@@ -24,8 +24,8 @@ pub fn copies_are_done()
     ensures faults { CopiesNameFaults }
 {}
 
-/// What is written whole is well-formed and holds the closing of the first file and the frames of all files. What stands
-/// of a splice that does not end is never taken for a whole file.
+/// What is written whole is well-formed and holds the closing of the first file and the frames of all files. What
+/// stands of a splice that does not end is never taken for a whole file.
 pub fn splices_are_whole_or_refused()
     ensures parts { NoPartIsWhole }
     ensures read { WholeSplicesAreRead }
