@@ -110,7 +110,7 @@ longer_at_end (Some closing) stood due is = by (closing_due (after_frames begun 
   by (Err error) is = ([], ap frames_of is ∙ sym (append-nil stood))
 
 -- what is due of the inputs after one of this number
-abbrev next_of : Files → List (List ℕ) → ℕ → Next
+abbrev pub next_of : Files → List (List ℕ) → ℕ → Next
 next_of files names number = λ closing stood due. IsDueFrom files closing stood (number + 1) names due
 
 -- what stands before inputs is due to be written, and some more

@@ -15,8 +15,8 @@ use Rattle.splicer.specs.Made.{HasMade}
 use Rattle.splicer.specs.Put.{HasPut, Comes}
 use Rattle.splicer.proofs.Making.{made-draws}
 
--- no entry is a dictionary
-none-held : IsDictionary []
+-- no entries are a dictionary
+pub none-held : IsDictionary []
 none-held = record { entries = λ class e is. absurd cc; names = λ name class is. absurd cc }
 
 -- no class is met

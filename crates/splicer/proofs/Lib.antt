@@ -19,3 +19,6 @@ pub mod Splicing
 pub mod Copies
 pub mod OwnFrames
 pub mod OwnCopies
+pub mod TakenFrames
+pub mod KeptFrames
+pub mod WholeOrRefused

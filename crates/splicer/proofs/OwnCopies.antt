@@ -36,7 +36,7 @@ of-held held file due is due_is =
 -- ---- well-formed files
 
 -- all frames of a well-formed file are first ones
-all-first : (file : List ℕ) (c : Content) (ordered : List Frame) (has : HasContent file c)
+pub all-first : (file : List ℕ) (c : Content) (ordered : List Frame) (has : HasContent file c)
     → AllZip IsInOrder c.frames ordered → AreFirst file ordered
 all-first file c ordered has in_order = record {
   order = has.order;

@@ -1,16 +1,20 @@
 -- The laws of splices and copies.
-use Rattle.std.specs.Prelude.{◌≡◌, ◌↔◌, ◌≤◌, ℕ, true, List, [], ◌∷◌, length, Some}
+use Rattle.std.specs.Prelude.{◌≡◌, ◌↔◌, ◌≤◌, ℕ, true, List, [], ◌∷◌, length, take, Some}
 use Rattle.std.specs.List.{AllZip}
 use Rattle.frame_outside.specs.Shelf.{Files}
 use Rattle.file_grammar.specs.declared.fault.Fault.{Fault}
 use Rattle.file_grammar.specs.Structure.{file_limit}
+use Rattle.file_grammar.specs.Laws.{WellFormed}
 use Rattle.frame_content.specs.Frames.{Frame}
 use Rattle.canonical_file.specs.declared.closing.Closing.{Closing}
 use Rattle.canonical_file.specs.Ordered.{IsInOrder}
 use Rattle.canonical_file.specs.Written.{canonical_head, canonical_file}
 use Rattle.canonical_file.specs.Contents.{Content, SameContent, IsCanonical}
+use Rattle.canonical_file.specs.Splices.{as_used}
 use Rattle.canonical_laws.specs.Content.{HasContent}
+use Rattle.canonical_laws.specs.Laws.{ReadsBack}
 use Rattle.splicer.specs.declared.errors.SpliceError.TheVariants as splice
+use Rattle.splicer.specs.Left.{IsPart}
 use Rattle.splicer.specs.Due.{Breaks, Gives, Due, Writes, Stops, HoldBytes, IsDue, output_of, is_whole}
 
 -- Of files that hold bytes a splice is due.
@@ -62,3 +66,18 @@ CopiesNameFaults =
     → files name ≡ Some file → Gives file frames (Breaks fault) → AllZip IsInOrder frames ordered
     → length (canonical_head ordered) ≤ file_limit → IsDue files (name ∷ []) due
     → due ≡ Stops (splice.Fault 0 fault) ordered
+
+-- No part of what is due is well-formed: neither a part of a whole file that is not all of it, nor what stands at an
+-- error or a part of that.
+abbrev pub NoPartIsWhole : Type 0
+NoPartIsWhole =
+    (files : Files) (names : List (List ℕ)) (due : Due) (n : ℕ) → IsDue files names due
+    → IsPart (is_whole due) n (output_of due) → WellFormed (take n (output_of due)) → ⊥
+
+-- What is written whole is well-formed, and reads back as the closing of the first file and the frames of all files,
+-- each class by the entry that is used first of it.
+abbrev pub WholeSplicesAreRead : Type 0
+WholeSplicesAreRead =
+    (files : Files) (names : List (List ℕ)) (closing : Closing) (frames : List Frame)
+    → IsDue files names (Writes closing frames)
+    → ReadsBack (canonical_file closing frames) closing (as_used frames)

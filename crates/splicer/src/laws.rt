@@ -3,6 +3,7 @@
 
 ghost use Rattle.splicer.specs.Laws.{EachSpliceHasADue, NoSpliceHasTwoDues, CopiesAreCanonical, CopiesTellContents};
 ghost use Rattle.splicer.specs.Laws.{CopiesAreDone, CopiesNameFaults};
+ghost use Rattle.splicer.specs.Laws.{NoPartIsWhole, WholeSplicesAreRead};
 
 /// Of files that hold bytes exactly one splice is due.
 pub fn each_splice_has_one_due()
@@ -21,4 +22,11 @@ pub fn copies_tell_contents()
 pub fn copies_are_done()
     ensures done { CopiesAreDone }
     ensures faults { CopiesNameFaults }
+{}
+
+/// What is written whole is well-formed and holds the closing of the first file and the frames of all files. What
+/// stands of a splice that does not end is never taken for a whole file.
+pub fn splices_are_whole_or_refused()
+    ensures parts { NoPartIsWhole }
+    ensures read { WholeSplicesAreRead }
 {}

@@ -9,5 +9,7 @@ mod splices;
 
 pub use canonical_writer::Summary;
 pub use errors::SpliceError;
-pub use laws::{copies_are_done, copies_tell_contents, each_splice_has_one_due};
+pub use laws::{
+    copies_are_done, copies_tell_contents, each_splice_has_one_due, splices_are_whole_or_refused,
+};
 pub use splices::splice;
