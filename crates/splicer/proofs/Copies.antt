@@ -1,5 +1,6 @@
 -- What a copy writes is the canonical file of its source's content.
-use Rattle.std.proofs.Common.{◌≡◌, ◌≤◌, ◌+◌, ℕ, nat_lt, true, false, Bool, if◌then◌else◌, length-append, List, [], ◌∷◌, length, Option, Some, None, Ok, Err, refl, sym, ap, subst, ◌∙◌}
+use Rattle.std.proofs.Common.{◌≡◌, ◌≤◌, ◌+◌, ℕ, nat_lt, true, false, Bool, if◌then◌else◌, length-append, List, []}
+use Rattle.std.proofs.Common.{◌∷◌, length, Option, Some, None, Ok, Err, refl, sym, ap, subst, ◌∙◌}
 use Rattle.std.specs.List.{AllZip}
 use Rattle.frame_outside.specs.Shelf.{Files}
 use Rattle.file_grammar.specs.Structure.{file_limit}
@@ -36,7 +37,10 @@ closed-writes : (long : Bool) (own closing : Closing) (stood frames : List Frame
     (size_with (after_frames begun stood) own) ≡ long
     → Writes closing frames
     ≡ closed_due (if long then Err error.OutputLimit
-    else Ok (record { frames = (after_frames begun stood).frames; bytes = size_with (after_frames begun stood) own })) own stood
+    else Ok (record {
+      frames = (after_frames begun stood).frames;
+      bytes = size_with (after_frames begun stood) own;
+    })) own stood
     → (closing ≡ own) × (frames ≡ stood) × (size_with (after_frames begun stood) own ≤ file_limit)
 closed-writes true own closing stood frames long is = absurd cc
 closed-writes false own closing stood frames long is = (cc, cc, ltb-false _ _ long)
@@ -54,7 +58,8 @@ copied : (file : List ℕ) (closing : Closing) (frames given ordered : List Fram
 copied file closing frames given ordered ending gives in_order (Refuses error stood) came is = absurd cc
 copied file closing frames given ordered (Breaks fault) gives in_order (Passes stood) came is = absurd cc
 copied file closing frames given ordered (Closes own) gives in_order (Passes stood) came is =
-    let same = closed-writes (nat_lt file_limit (size_with (after_frames begun stood) own)) own closing stood frames refl is in
+    let same = closed-writes (nat_lt file_limit (size_with (after_frames begun stood) own)) own closing stood frames
+    refl is in
     let stood_is : stood ≡ ordered = passes-stood None [] ordered stood came in
     let file_is : canonical_file closing frames ≡ canonical_file own stood =
     λ i. canonical_file (same.0 i) (same.1 i) in

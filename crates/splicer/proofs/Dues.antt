@@ -1,5 +1,6 @@
 -- What is due of a splice, by what was written of an input.
-use Rattle.std.proofs.Common.{◌≡◌, ◌⊎◌, inl, inr, ℕ, ◌+◌, List, [], ◌∷◌, ◌++◌, Option, Some, None, Result, Ok, Err, refl, sym, ap}
+use Rattle.std.proofs.Common.{◌≡◌, ◌⊎◌, inl, inr, ℕ, ◌+◌, List, [], ◌∷◌, ◌++◌, Option, Some, None, Result, Ok, Err}
+use Rattle.std.proofs.Common.{refl, sym, ap}
 use Rattle.std.proofs.Common.{subst, ◌∙◌}
 use Rattle.std.proofs.lemmas.List.{append_assoc, append-nil}
 use Rattle.std.specs.List.{AllZip}
@@ -41,8 +42,8 @@ due-given file closing stood frames ordered ending number next due gives in_orde
     subst Q same.1 (subst P same.0 is.is)
 
 -- a frame of the input is refused
-pub due-refused : (file : List ℕ) (closing : Option Closing) (stood ordered then_stand : List Frame) (error : WriteError)
-    (number : ℕ) (next : Next) (due : Due) → AreFirst file ordered
+pub due-refused : (file : List ℕ) (closing : Option Closing) (stood ordered then_stand : List Frame)
+    (error : WriteError) (number : ℕ) (next : Next) (due : Due) → AreFirst file ordered
     → course closing stood ordered ≡ Refuses error then_stand → IsDueOf file closing stood number next due
     → due ≡ Stops (unwritten number error) then_stand
 due-refused file closing stood ordered then_stand error number next due first refuses is =
@@ -54,8 +55,8 @@ due-refused file closing stood ordered then_stand error number next due first re
     is.is
 
 -- the input has a fault
-pub due-faulty : (file : List ℕ) (closing : Option Closing) (stood frames ordered then_stand : List Frame) (fault : Fault)
-    (number : ℕ) (next : Next) (due : Due) → Gives file frames (Breaks fault) → AllZip IsInOrder frames ordered
+pub due-faulty : (file : List ℕ) (closing : Option Closing) (stood frames ordered then_stand : List Frame)
+    (fault : Fault) (number : ℕ) (next : Next) (due : Due) → Gives file frames (Breaks fault) → AllZip IsInOrder frames ordered
     → course closing stood ordered ≡ Passes then_stand → IsDueOf file closing stood number next due
     → due ≡ Stops (splice.Fault number fault) then_stand
 due-faulty file closing stood frames ordered then_stand fault number next due gives in_order passes is =

@@ -1,5 +1,5 @@
--- What is due of a splice: the frames of all inputs in order, each frame in its order, one input after another, up to what
--- comes first of a fault, a frame that is refused, and a file that is not held.
+-- What is due of a splice: the frames of all inputs in order, each frame in its order, one input after another, up to
+-- what comes first of a fault, a frame that is refused, and a file that is not held.
 use Rattle.std.specs.Prelude.{◌≡◌, ℕ, ◌+◌, ◌⊎◌, Bool, true, false, List, [], ◌∷◌, ◌++◌, length, map, Option, Some, None}
 use Rattle.std.specs.Prelude.{Result, Ok, Err}
 use Rattle.std.specs.List.{AllZip}
@@ -95,8 +95,8 @@ IsDueAfter (Passes stood) (Breaks fault) closing number next due = due ≡ Stops
 IsDueAfter (Passes stood) (Closes c) closing number next due = next (held_then closing c) stood due
 
 -- an input, with its number
-pub record IsDueOf (file : List ℕ) (closing : Option Closing) (stood : List Frame) (number : ℕ) (next : Next) (due : Due)
-    : Type 0 where
+pub record IsDueOf (file : List ℕ) (closing : Option Closing) (stood : List Frame) (number : ℕ) (next : Next)
+    (due : Due) : Type 0 where
   pub frames : List Frame
   pub ordered : List Frame
   pub ending : Ending

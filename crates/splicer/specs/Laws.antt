@@ -20,7 +20,8 @@ use Rattle.splicer.specs.Due.{Breaks, Gives, Due, Writes, Stops, HoldBytes, IsDu
 -- Of files that hold bytes a splice is due.
 abbrev pub EachSpliceHasADue : Type 0
 EachSpliceHasADue =
-    (files : Files) (name : List ℕ) (names : List (List ℕ)) → HoldBytes files → (due : Due) × IsDue files (name ∷ names) due
+    (files : Files) (name : List ℕ) (names : List (List ℕ)) → HoldBytes files
+    → (due : Due) × IsDue files (name ∷ names) due
 
 -- And no two.
 abbrev pub NoSpliceHasTwoDues : Type 0

@@ -13,8 +13,8 @@ pub record LeavesPart (files : Files) (new : Option Files) (to : List ℕ) (whol
   pub part : IsPart whole count bytes
   pub files_are : new ≡ Some (holding to (take count bytes) files)
 
--- The file holds these bytes; where the shelf or memory failed, it is as it was, or holds a part of them. All other files
--- are as they were.
+-- The file holds these bytes; where the shelf or memory failed, it is as it was, or holds a part of them. All other
+-- files are as they were.
 abbrev pub LeavesFile : Bool → Files → Option Files → List ℕ → Bool → List ℕ → Type 0
 LeavesFile true files new to whole bytes = (new ≡ Some files) ⊎ LeavesPart files new to whole bytes
 LeavesFile false files new to whole bytes = new ≡ Some (holding to bytes files)

@@ -3,8 +3,8 @@ use Rattle.std.specs.Prelude.{◌≡◌, ℕ, ◌+◌, ◌≤◌, List, length, 
 use Rattle.frame_outside.specs.Shelf.{Outside, Told, IsTarget, writing_at, released, holding}
 use Rattle.std.specs.Option.{option_map}
 
--- The file of the name was made after `old`, in this slot, and these bytes were written to it; so many inputs were opened
--- before or after it, and bytes of inputs were drawn. Beside that and the counts nothing changed.
+-- The file of the name was made after `old`, in this slot, and these bytes were written to it; so many inputs were
+-- opened before or after it, and bytes of inputs were drawn. Beside that and the counts nothing changed.
 pub record HasMade (old new : Outside) (name : List ℕ) (inputs slot : ℕ) (bytes : List ℕ) : Type 0 where
   pub faults : old.faults ≤ new.faults
   pub misses : new.misses ≡ old.misses

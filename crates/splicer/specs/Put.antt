@@ -101,8 +101,8 @@ Puts file closing stood old new name inputs w (Err (input.Write error)) =
 
 -- ---- on the way
 
--- The items of a file before a place: their frames are written after those that stood, and the classes met of it are used
--- as this dictionary has them.
+-- The items of a file before a place: their frames are written after those that stood, and the classes met of it are
+-- used as this dictionary has them.
 pub record HasPut (file : List ℕ) (order : Order) (before : Before) (closing : Option Closing) (stood : List Frame)
     (old new : Outside) (name : List ℕ) (inputs : ℕ) (layouts : ChannelLayouts) (w : Writer) : Type 0 where
   pub items : List Item

@@ -22,8 +22,8 @@ use frame_outside::Shelf;
 use item_reader::{Item, ItemReader};
 use std::alloc::Global;
 
-/// Writes the frames of the file that a source slot was opened on, each as it is read, up to its end or its first fault.
-/// The closing of the first input is held.
+/// Writes the frames of the file that a source slot was opened on, each as it is read, up to its end or its first
+/// fault. The closing of the first input is held.
 pub fn put_input<S: Shelf>(
     alloc: Global,
     shelf: &mut S,

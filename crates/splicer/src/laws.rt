@@ -1,5 +1,5 @@
-//! The laws of splices and copies. Each is the contract of a function that does nothing: a crate that calls the function
-//! has the law.
+//! The laws of splices and copies. Each is the contract of a function that does nothing: a crate that calls the
+//! function has the law.
 
 ghost use Rattle.splicer.specs.Laws.{EachSpliceHasADue, NoSpliceHasTwoDues, CopiesAreCanonical, CopiesTellContents};
 ghost use Rattle.splicer.specs.Laws.{CopiesAreDone, CopiesNameFaults};
@@ -11,8 +11,8 @@ pub fn each_splice_has_one_due()
     ensures unique { NoSpliceHasTwoDues }
 {}
 
-/// What a copy writes whole is the canonical file of what its source holds. So copies are equal bytes exactly where their
-/// sources hold the same.
+/// What a copy writes whole is the canonical file of what its source holds. So copies are equal bytes exactly where
+/// their sources hold the same.
 pub fn copies_tell_contents()
     ensures canonical { CopiesAreCanonical }
     ensures tell { CopiesTellContents }
