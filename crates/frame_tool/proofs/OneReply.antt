@@ -16,7 +16,7 @@ use Rattle.frame_tool.specs.declared.judgement.Report.TheVariants.{Summary, Chan
 use Rattle.frame_tool.specs.Check.{IsFinding}
 use Rattle.frame_tool.specs.Due.{Reply, reply_with, walk_reply, finding_reply, splice_reply, IsFileDue, IsSpliceDue}
 use Rattle.frame_tool.specs.Due.{IsCommandDue}
-use Rattle.frame_tool.specs.Due.{EachRunHasADueReply, NoRunHasTwoDueReplies}
+use Rattle.frame_tool.specs.Due.{AreFit, EachRunHasADueReply, NoRunHasTwoDueReplies}
 use Rattle.frame_tool.specs.Words.{Form, WalkFile, CheckFile, ListFile, SpliceFiles, command_of}
 use Rattle.splicer.specs.Due.{HoldBytes}
 use Rattle.splicer.proofs.Dues.{no-two-dues, a-due}
@@ -81,7 +81,7 @@ splice_dues : (files : Files) (to : List ℕ) (from : List (List ℕ)) (first se
 splice_dues files to from first second (a, is, left) (b, also, right) =
     left ∙ ap (splice_reply to) (no-two-dues files from None [] 0 a b is.from also.from) ∙ sym right
 
-command_due : (files : Files) (words : List (List ℕ)) (command : Option Form) → HoldBytes files
+command_due : (files : Files) (words : List (List ℕ)) (command : Option Form) → AreFit command files
     → command_of words ≡ command → (reply : Reply) × IsCommandDue files command reply
 command_due files words None bytes is = (reply_with Usage, refl)
 command_due files words (Some (WalkFile file)) bytes is = file_due _ walk_reply a_verdict (files file)

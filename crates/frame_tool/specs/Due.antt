@@ -148,10 +148,16 @@ Prints Device text old new = AppendsFront old new text
 Prints NoMemory text old new = AppendsFront old new text
 Prints _ text old new = Appends old new text
 
--- words over files that hold bytes have a reply that is due
+-- what is due of a splice is said of files that hold bytes, and that of any other command of all files
+abbrev pub AreFit : Option Form → Files → Type 0
+AreFit (Some (SpliceFiles to from)) files = HoldBytes files
+AreFit command files = ⊤
+
+-- words over such files have a reply that is due
 abbrev pub EachRunHasADueReply : Type 0
 EachRunHasADueReply =
-    (files : Files) (words : List (List ℕ)) → HoldBytes files → (reply : Reply) × IsDue files words reply
+    (files : Files) (words : List (List ℕ)) → AreFit (command_of words) files
+    → (reply : Reply) × IsDue files words reply
 
 -- and no two
 abbrev pub NoRunHasTwoDueReplies : Type 0

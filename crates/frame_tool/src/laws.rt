@@ -11,7 +11,7 @@ pub fn each_file_has_one_verdict()
     ensures unique { NoFileHasTwoVerdicts }
 {}
 
-/// Words over files have exactly one reply that is due.
+/// Words over files have exactly one reply that is due; those of a splice where the files hold bytes.
 pub fn each_run_has_one_due_reply()
     ensures exists { EachRunHasADueReply }
     ensures unique { NoRunHasTwoDueReplies }
