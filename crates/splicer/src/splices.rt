@@ -17,7 +17,21 @@ use frame_outside::Shelf;
 use std::alloc::Global;
 
 /// Writes the canonical file of the frames of all inputs, one input after another, with the closing of the first, to
-/// the file of a name.
+/// the file of a name, and tells its frames and bytes (LIGO-T970130 v8, the structures of a file). A copy is the
+/// splice of one file.
+///
+/// The first input is opened, then the file is made or emptied, then reading begins; each further input is opened at
+/// its turn. Each frame is written as it is read, so the answer is what comes first, by input and then by byte. It
+/// takes the memory of one frame, of the entries used, and of the names and places of all channels.
+///
+/// # Errors
+///
+/// `Fault` at the item that shows the first fault of an input; at the end of a frame `FramesLimit` where it would be
+/// frame 1,000,001, then `Clash` at the first class of its records whose entry is not the one used before, comments
+/// aside, or whose structure name is used under another class, then `OutputLimit` where there would be more than
+/// 2^62 bytes; `OutputLimit` also at the end. The file then holds the canonical head of the frames before. `Device`
+/// at an input that is not held, or where the shelf could not do a call: the file is then as it was, or holds a part
+/// of what was due.
 pub fn splice<S: Shelf>(
     alloc: Global,
     shelf: &mut S,
