@@ -3,7 +3,7 @@
 
 use crate::pieces::Piece::{Bare, Bytes, End, Full, Rest, Times};
 use crate::pieces::{Piece, joined};
-use crate::worked_files::{BIG, LITTLE, ONE_FRAME, Outside, WHOLE, run_over, run_with};
+use crate::worked_files::{BIG, LITTLE, ONE_FRAME, Outside, Run, WHOLE, run_over, run_with};
 use std::alloc::{AllocError, Global};
 use std::process::Abort;
 use std::test::Fail;
@@ -160,7 +160,7 @@ fn check_copy(
     file: &[u8],
     copied: Copied,
 ) -> Result<(), AllocError> {
-    let run = run_with(alloc, outside, &[("f", file)], &["copy", "f", "o"], "o")?;
+    let run = copy_of(alloc, outside, file)?;
     assert_eq!(rt; run.status, 0, "{name}");
     assert!(rt; run.printed.is_empty(), "{name}");
     let Some(copy) = run.output else {
@@ -172,13 +172,7 @@ fn check_copy(
         Copied::Itself => assert_eq!(rt; copy.as_slice(), file, "{name}"),
         Copied::Size(size) => assert_eq!(rt; copy.len(), size, "{name}"),
     }
-    let again = run_with(
-        alloc,
-        WHOLE,
-        &[("f", copy.as_slice())],
-        &["copy", "f", "o"],
-        "o",
-    )?;
+    let again = copy_of(alloc, WHOLE, copy.as_slice())?;
     assert!(rt;
         again
             .output
@@ -187,6 +181,11 @@ fn check_copy(
         "{name}"
     );
     Ok(())
+}
+
+/// A copy of a file.
+fn copy_of(alloc: Global, outside: Outside, file: &[u8]) -> Result<Run, AllocError> {
+    run_with(alloc, outside, &[("f", file)], &["copy", "f", "o"], "o")
 }
 
 /// The file of one frame without unitY in FrVect.
