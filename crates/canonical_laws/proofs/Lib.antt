@@ -59,3 +59,4 @@ pub mod FramesUnder
 pub mod SplicedFrames
 pub mod SplicesInOrder
 pub mod SplicedContents
+pub mod EqualParts
