@@ -89,7 +89,8 @@ parts_tell dictionary other f g o p sound also_sound left right writable also_wr
   where
     there : frame_part begun o ≡ frame_part begun p → SameFrame f g
     there same =
-        let heads : canonical_head (o ∷ []) ≡ canonical_head (p ∷ []) = ap (λ part. header_bytes ++ (part ++ [])) same in
+        let heads : canonical_head (o ∷ []) ≡ canonical_head (p ∷ []) =
+        ap (λ part. header_bytes ++ (part ++ [])) same in
         let lists : map as_read (o ∷ []) ≡ map as_read (p ∷ []) =
         same_heads dictionary other (o ∷ []) (p ∷ []) (alone dictionary f o sound left writable)
         (alone other g p also_sound right also_writable) limit also heads in
