@@ -24,6 +24,7 @@ use Rattle.canonical_laws.specs.Sources.{IsWritableInOrder}
 use Rattle.canonical_laws.specs.Laws.{PartsTellFrames}
 use Rattle.canonical_laws.proofs.Heads.{after_all, frames_items, read_from, HeadStands}
 use Rattle.canonical_laws.proofs.WholeFiles.{AreWritten, whole-head}
+use Rattle.canonical_laws.proofs.ShortParts.{alone-short}
 
 -- ---- items up to the end of a file
 
@@ -84,16 +85,18 @@ alone dictionary f o sound in_order writable =
     record { sound = sound; frames = (writable.writable o in_order, tt); few = omega arith }
 
 pub parts_tell : PartsTellFrames
-parts_tell dictionary other f g o p sound also_sound left right writable also_writable limit also =
+parts_tell dictionary other f g o p sound also_sound left right writable also_writable =
     (there, λ same. ap (frame_part begun) (same_in_orders f g o p same left right))
   where
     there : frame_part begun o ≡ frame_part begun p → SameFrame f g
     there same =
         let heads : canonical_head (o ∷ []) ≡ canonical_head (p ∷ []) =
         ap (λ part. header_bytes ++ (part ++ [])) same in
+        let one_written = alone dictionary f o sound left writable in
+        let two_written = alone other g p also_sound right also_writable in
         let lists : map as_read (o ∷ []) ≡ map as_read (p ∷ []) =
-        same_heads dictionary other (o ∷ []) (p ∷ []) (alone dictionary f o sound left writable)
-        (alone other g p also_sound right also_writable) limit also heads in
+        same_heads dictionary other (o ∷ []) (p ∷ []) one_written two_written
+        (alone-short dictionary o one_written) (alone-short other p two_written) heads in
         let read : as_read o ≡ as_read p = same_first (as_read o) (as_read p) lists in
         let one : o ≡ p = sym (writable.as_read_is o left) ∙ read ∙ also_writable.as_read_is p right in
         same_trans (frame_graph f) (frame_graph o) (frame_graph g) (same_in_its_order f o left)

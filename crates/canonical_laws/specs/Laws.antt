@@ -1,5 +1,5 @@
 -- The laws of contents and canonical files.
-use Rattle.std.specs.Prelude.{◌≡◌, ◌<◌, ◌≤◌, ◌↔◌, ℕ, List, [], ◌∷◌, length, map, take}
+use Rattle.std.specs.Prelude.{◌≡◌, ◌<◌, ◌≤◌, ◌↔◌, ℕ, List, [], length, map, take}
 use Rattle.std.specs.List.{AllByRecursion}
 use Rattle.scalar_types.specs.declared.Order.TheVariants.{Little}
 use Rattle.dictionary.specs.declared.entries.Entry.{Entry}
@@ -118,5 +118,4 @@ abbrev pub PartsTellFrames : Type 0
 PartsTellFrames =
     (dictionary other : List Entry) (f g o p : Frame) → IsDictionary dictionary → IsDictionary other
     → IsInOrder f o → IsInOrder g p → IsWritableInOrder dictionary f → IsWritableInOrder other g
-    → length (canonical_head (o ∷ [])) ≤ file_limit → length (canonical_head (p ∷ [])) ≤ file_limit
     → (frame_part begun o ≡ frame_part begun p) ↔ SameFrame f g
