@@ -59,3 +59,5 @@ pub mod FramesUnder
 pub mod SplicedFrames
 pub mod SplicesInOrder
 pub mod SplicedContents
+pub mod ShortParts
+pub mod EqualParts

@@ -46,7 +46,7 @@ element-written e w =
     body-written element_fields (element_values e) element_fields-sound (w.name, (w.text, (w.comment, tt)))
     (tt, (tt, (tt, tt)))
 
-element-short : (e : Element) → IsWritableElement e → 14 + length (element_body e) ≤ record_limit
+pub element-short : (e : Element) → IsWritableElement e → 14 + length (element_body e) ≤ record_limit
 element-short e w =
     let name : length e.name ≤ 65534 = w.name in
     let text : length e.text ≤ 65534 = w.text in
@@ -119,7 +119,7 @@ head-written e w =
     body-written structure_fields (head_values e) structure_fields-sound (w.name, (class, (w.comment, tt)))
     (tt, (tt, (tt, tt)))
 
-head-short : (e : Entry) → IsWritableEntry e → 14 + length (head_body e) ≤ record_limit
+pub head-short : (e : Entry) → IsWritableEntry e → 14 + length (head_body e) ≤ record_limit
 head-short e w =
     let name : length e.name ≤ 65534 = w.name in
     let comment : length e.comment ≤ 65534 = w.comment in

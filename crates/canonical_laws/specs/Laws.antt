@@ -14,10 +14,12 @@ use Rattle.file_content.specs.declared.contents.Contents.{Contents}
 use Rattle.file_content.specs.Contents.{AreContents}
 use Rattle.canonical_file.specs.declared.closing.Closing.{Closing}
 use Rattle.canonical_file.specs.Ranges.{AreBytes}
-use Rattle.canonical_file.specs.Written.{begun, after_frames, table_piece, canonical_head, canonical_file}
+use Rattle.canonical_file.specs.Ordered.{SameFrame, IsInOrder}
+use Rattle.canonical_file.specs.Written.{begun, frame_part, after_frames, table_piece, canonical_head, canonical_file}
 use Rattle.canonical_file.specs.Contents.{Content, SameContent, IsCanonical}
 use Rattle.canonical_laws.specs.Content.{content_of, HasContent}
 use Rattle.canonical_laws.specs.Writable.{IsWritableFrame, as_read, IsWritableClosing}
+use Rattle.canonical_laws.specs.Sources.{IsWritableInOrder}
 
 -- ---- what is written is read back
 
@@ -107,3 +109,13 @@ abbrev pub CanonicalFilesStay : Type 0
 CanonicalFilesStay =
     (file bytes again : List ℕ) (c d : Content) → AreBytes file → HasContent file c → IsCanonical c bytes
     → length bytes ≤ file_limit → HasContent bytes d → IsCanonical d again → again ≡ bytes
+
+-- ---- frames and their parts
+
+-- The parts of two frames, each in its order and as the first frame of a file, are equal bytes exactly where the frames
+-- are the same.
+abbrev pub PartsTellFrames : Type 0
+PartsTellFrames =
+    (dictionary other : List Entry) (f g o p : Frame) → IsDictionary dictionary → IsDictionary other
+    → IsInOrder f o → IsInOrder g p → IsWritableInOrder dictionary f → IsWritableInOrder other g
+    → (frame_part begun o ≡ frame_part begun p) ↔ SameFrame f g

@@ -7,7 +7,7 @@ ghost use Rattle.canonical_laws.specs.Laws.{NoCanonicalHeadIsWhole, NoPartOfAHea
 ghost use Rattle.canonical_laws.specs.Laws.{NoPartOfACanonicalFileIsWhole};
 ghost use Rattle.canonical_laws.specs.Laws.{ContentsAreUnique};
 ghost use Rattle.canonical_laws.specs.Laws.{CanonicalFilesAreUnique, CanonicalFilesKeepContents};
-ghost use Rattle.canonical_laws.specs.Laws.{CanonicalFilesTellContents, CanonicalFilesStay};
+ghost use Rattle.canonical_laws.specs.Laws.{CanonicalFilesTellContents, CanonicalFilesStay, PartsTellFrames};
 ghost use Rattle.canonical_laws.specs.Sources.{EntriesOfFilesAreWritable, FramesOfFilesAreWritable};
 ghost use Rattle.canonical_laws.specs.Sources.{ClosingsOfFilesAreWritable};
 ghost use Rattle.canonical_laws.specs.Spliced.{SplicedFramesAreWrittenTogether};
@@ -61,6 +61,12 @@ pub fn canonical_files_tell_contents()
     ensures keep { CanonicalFilesKeepContents }
     ensures tell { CanonicalFilesTellContents }
     ensures stay { CanonicalFilesStay }
+{}
+
+/// The parts of two frames, each in its order and as the first frame of a file, are equal bytes exactly where
+/// the frames are the same. So copies of a frame in several files are found by their parts.
+pub fn equal_parts_are_of_equal_frames()
+    ensures { PartsTellFrames }
 {}
 
 /// Frames of several files, none of which clashes with those before it, can be written by one dictionary with the
