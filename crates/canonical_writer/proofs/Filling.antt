@@ -5,6 +5,7 @@ use Rattle.std.specs.Prelude.{slice_get, nat_eq}
 use Rattle.std.specs.List.{IsDistinct}
 use Rattle.std.proofs.lemmas.List.{length-map, length-set, get_or-set_same, get_or-set_other}
 use Rattle.std.proofs.lemmas.Option.{same_Some}
+use Rattle.type_text.specs.declared.types.Link.{Link}
 use Rattle.dictionary.specs.declared.entries.Entry.{Entry}
 use Rattle.rooted_graph.specs.BreadthOrder.{number_of, roots_and_targets}
 use Rattle.rooted_graph.proofs.Firsts.{first_occurrences_distinct}
@@ -95,21 +96,24 @@ filled-none at closing used source part empty ready links size = record {
   places = λ n k number none. absurd (omega arith);
 }
 
-rows-size : (source : FrameSource) → length (frame_of source).rows ≡ length source.order.now
+pub rows-size : (source : FrameSource) → length (frame_of source).rows ≡ length source.order.now
 rows-size source =
     length-map source.order.now (row_in (segment_frame source.dictionary.now source.segment.now) source.order.now)
 
+-- the number of a place in the order
+pub number-in_order : (source : FrameSource) (k : ℕ) → IsSource source → k < length source.order.now
+    → number_of source.order.now (get_or source.order.now k 0) ≡ Some k
+number-in_order source k is within =
+    number_distinct source.order.now k (subst (IsDistinct nat_eq) (sym is.can.breadth.first)
+    (first_occurrences_distinct (roots_and_targets (graph_of source.plans.now source.segment.now) source.order.now)))
+    within
+
 -- the record of a place in the order
-pub placed-at : (source : FrameSource) (k : ℕ) (part : FramePart) → IsSource source → k < length source.order.now
-    → AreNewLinks (classes_of source.segment.now.nodes) source.order.now part.links
-    → IsPlacedAt source part.links (get_or source.order.now k 0) k
-placed-at source k part is within links = record {
-  source_is = is;
-  number = number_distinct source.order.now k (subst (IsDistinct nat_eq) (sym is.can.breadth.first)
-      (first_occurrences_distinct (roots_and_targets (graph_of source.plans.now source.segment.now) source.order.now)))
-      within;
-  links_are = links;
-}
+pub placed-at : (source : FrameSource) (k : ℕ) (links : List Link) → IsSource source → k < length source.order.now
+    → AreNewLinks (classes_of source.segment.now.nodes) source.order.now links
+    → IsPlacedAt source links (get_or source.order.now k 0) k
+placed-at source k links is within are =
+    record { source_is = is; number = number-in_order source k is within; links_are = are }
 
 record-of : (source : FrameSource) (k : ℕ) → k < length source.order.now
     → slice_get (records_of (frame_of source)) k ≡ Some (record_at source k)

@@ -17,7 +17,7 @@ use Rattle.rooted_graph.proofs.Places.{number_at}
 use Rattle.frame_content.specs.Labels.{Label, no_label, nullified, printed_entry}
 use Rattle.frame_content.specs.Frames.{Frame, Row, no_row, label_at, label_of}
 use Rattle.frame_content.specs.Frames.{frame_of as segment_frame}
-use Rattle.contents_table.proofs.ReadRecords.{ArePlansOf, IsReadRecord, read-record}
+use Rattle.contents_table.proofs.ReadRecords.{IsReadRecord, read-record}
 use Rattle.contents_table.proofs.LinkEnds.{record-at, row-record}
 use Rattle.contents_table.proofs.SomeValues.{map-some}
 use Rattle.canonical_file.specs.declared.closing.Closing.{Closing}
@@ -31,10 +31,7 @@ use Rattle.canonical_writer.specs.NewLinks.{link_of, link_to}
 use Rattle.canonical_writer.specs.Parts.{IsRecordOf, IsReady, IsShortEntry}
 use Rattle.canonical_writer.specs.Filled.{IsSource, IsPlacedAt, Uses, UsesRecord, record_at, last_record}
 use Rattle.canonical_writer.specs.Filled.{place_after}
-use Rattle.canonical_writer.proofs.WrittenRecords.{row-written, end-written}
-
-pub source-plans : (source : FrameSource) → IsSource source → ArePlansOf source.dictionary.now source.plans.now
-source-plans source is = record { sound = is.sound; plans_are = is.plans_are }
+use Rattle.canonical_writer.proofs.RecordBytes.{source-plans, row-bytes, end-bytes}
 
 -- the entry of a record in the order is that of its class
 pub row-entry : (source : FrameSource) (links : List Link) (n k : ℕ) (r : Bodied) → IsPlacedAt source links n k
@@ -90,12 +87,8 @@ row-uses closing used after source links n k node fields items old mid new place
     let class_is : entry_of held node.class ≡ Some e = ap (λ (x : Node). entry_of held x.class) (sym found.2) ∙ read.there in
     let one = uses e class_is (placed.source_is.can.texts node.class e class_is) in
     let two = uses-more closing used after held (printed_entry e) items old mid new one more met in
-    let is_record = subst (λ o. IfSome o (λ (r : Bodied). IsRecordOf s.order fields (link_to s.nodes links) r.node.class
-    (link_of links n).instance r.body items)) there written in
     let items_are : items ≡ record_bytes (record_at source k) =
-    row-written held source.plans.now s source.order.now links n k r fields items (source-plans source placed.source_is)
-    placed.source_is.can placed.links_are placed.number there
-    (ap (λ (x : Node). plan_of source.plans.now x.class) found.2 ∙ sym plan) bytes is_record in
+    (row-bytes source links n k node fields items placed is_node plan bytes written).is in
     subst (λ (e : Entry). Uses closing used after held e (record_bytes (record_at source k)) old new) (sym entry_is)
     (subst (λ xs. Uses closing used after held (printed_entry e) xs old new) items_are two)
 
@@ -161,13 +154,13 @@ end-there source node is is_node =
     let found = map-some (λ (r : Bodied). r.node) s.end_record node is_node in
     (found.0, found.1, found.2, subst (λ o. IsSomeAnd o (ReadsBy plans s.order)) found.1 is.can.end)
 
-end-read : (source : FrameSource) (r : Bodied) → IsSource source → ReadsBy source.plans.now source.segment.now.order r
+pub end-read : (source : FrameSource) (r : Bodied) → IsSource source → ReadsBy source.plans.now source.segment.now.order r
     → IsReadRecord source.dictionary.now source.segment.now.order r
 end-read source r is reads =
     read-record source.dictionary.now source.plans.now source.segment.now.order r (source-plans source is) reads
 
 -- its entry is that of its class
-end-entry : (source : FrameSource) (r : Bodied) → source.segment.now.end_record ≡ Some r
+pub end-entry : (source : FrameSource) (r : Bodied) → source.segment.now.end_record ≡ Some r
     → (read : IsReadRecord source.dictionary.now source.segment.now.order r)
     → (last_record source).entry ≡ printed_entry read.entry
 end-entry source r there read =
@@ -193,13 +186,10 @@ end-uses closing used after source node fields body items old mid new is is_node
     let class_is : entry_of held node.class ≡ Some e = ap (λ (x : Node). entry_of held x.class) (sym found.2) ∙ read.there in
     let two = uses-more closing used after held (printed_entry e) items old mid new
     (uses e class_is (is.can.texts node.class e class_is)) more met in
-    let body_is : body ≡ r.body = is_body ∙ ap (λ o. option_map_or (λ (r : Bodied). r.body) o []) found.1 in
-    let is_record : IsRecordOf s.order fields nullified r.node.class 0 r.body items =
-    subst (λ (x : Node). IsRecordOf s.order fields nullified x.class 0 r.body items) (sym found.2)
-    (subst (λ body. IsRecordOf s.order fields nullified node.class 0 body items) body_is written) in
+    let named = subst (λ o. IfSome o (λ (r : Bodied). r.node.class ≡ node.class)) (sym found.1)
+    (ap (λ (x : Node). x.class) found.2) in
     let items_are : items ≡ record_bytes (last_record source) =
-    end-written held source.plans.now s source.order.now r fields items (source-plans source is) is.can found.1
-    (ap (λ (x : Node). plan_of source.plans.now x.class) found.2 ∙ sym plan) bytes is_record in
+    (end-bytes source node.class fields body items is named is_body plan bytes written).is in
     subst (λ (e : Entry). Uses closing used after held e (record_bytes (last_record source)) old new)
     (sym (end-entry source r found.1 read))
     (subst (λ xs. Uses closing used after held (printed_entry e) xs old new) items_are two)

@@ -1,6 +1,9 @@
+pub mod AlikeEntries
+pub mod AlikeRows
 pub mod BodyLinks
 pub mod Clashes
 pub mod ClosingBytes
+pub mod ComparedRecords
 pub mod EndBytes
 pub mod EndLayout
 pub mod EntryBytes
@@ -9,12 +12,15 @@ pub mod Filling
 pub mod FrameLinks
 pub mod FrameRecords
 pub mod FrameUses
+pub mod LinkedRows
 pub mod Numbering
 pub mod Pieces
 pub mod PrintedClosings
 pub mod PrintedEntries
+pub mod RecordBytes
 pub mod RelinkedValues
 pub mod SegmentOrders
+pub mod SourceRows
 pub mod Standing
 pub mod Structures
 pub mod WriterSteps

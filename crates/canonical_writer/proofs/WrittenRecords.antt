@@ -1,5 +1,5 @@
 -- Records that are written are those of the frame in its order.
-use Rattle.std.proofs.Common.{◌≡◌, ℕ, Some, List, [], ◌++◌, length, map, unwrap_or, refl, sym}
+use Rattle.std.proofs.Common.{◌≡◌, ℕ, Some, Ok, List, [], ◌++◌, length, map, unwrap_or, refl, sym}
 use Rattle.std.proofs.Common.{ap, ◌∙◌, subst, arith}
 use Rattle.std.specs.Prelude.{◌≤◌, ◌+◌, IsSomeAnd, slice_get}
 use Rattle.std.specs.Option.{option_map_or}
@@ -17,6 +17,7 @@ use Rattle.record_values.specs.Links.{links_in, linked}
 use Rattle.dictionary.specs.declared.entries.Entry.{Entry}
 use Rattle.layout_plan.specs.declared.fields.Field.{Field}
 use Rattle.layout_plan.specs.Body.{IsBody}
+use Rattle.layout_plan.specs.Reading.{body_in}
 use Rattle.layout_plan.specs.Layout.{layout_of, AreSound}
 use Rattle.layout_plan.specs.Plans.{plan_of}
 use Rattle.layout_plan.specs.Written.{cleared}
@@ -30,11 +31,12 @@ use Rattle.frame_content.specs.Frames.{Row, Frame, row_at, label_of, frame_of}
 use Rattle.contents_table.proofs.ReadRecords.{ArePlansOf, IsReadRecord, read-record, entry-class}
 use Rattle.canonical_file.specs.Bytes.{body_bytes, structure_bytes}
 use Rattle.canonical_file.specs.Ranges.{IsByte, AreBytes}
-use Rattle.canonical_file.specs.Ordered.{new_link, instance_at}
+use Rattle.canonical_file.specs.Ordered.{new_link, new_values, instance_at}
 use Rattle.canonical_file.specs.Records.{entry_fields, record_bytes, row_record, end_record}
 use Rattle.canonical_file.proofs.Printing.{layout-printed}
 use Rattle.canonical_file.proofs.RenumberedLinks.{row-in_order}
 use Rattle.canonical_file.proofs.Spelled.{written-is}
+use Rattle.canonical_writer.specs.Alike.{ReadAgain}
 use Rattle.canonical_writer.specs.NewLinks.{classes_of, AreNewLinks, link_of, link_to}
 use Rattle.canonical_writer.specs.Parts.{IsRecordOf, CanBeWritten, frame_in_order}
 use Rattle.canonical_writer.proofs.FrameLinks.{IsReadSegment, record-read, row-is, link-in_order, links-there}
@@ -76,14 +78,34 @@ written-by held order r read links class instance fields bytes same all is =
     ∙ ap (λ ls. body_bytes read.fields (linked (cleared read.fields read.values) (map links ls)))
     (links-read order read.fields read.values read.tail r.body read.sound.sound read.body))
 
+-- and read as these values again
+read-by : (held : List Entry) (order : Order) (r : Bodied) (read : IsReadRecord held order r) (links : Link → Link)
+    (class instance : ℕ) (fields : List Field) (bytes : List ℕ) → fields ≡ read.fields → AreBytes bytes
+    → IsRecordOf order fields links class instance r.body bytes
+    → ReadAgain read.fields (linked (cleared read.fields read.values) (map links (links_in read.values)))
+read-by held order r read links class instance fields bytes same all is =
+    let written = subst (λ fields. IsRecordOf order fields links class instance r.body bytes) same is in
+    let values : List Value = linked (cleared read.fields read.values)
+    (map links (links_by order read.fields r.body)) in
+    let again = written.rewritten read.values read.tail read.body in
+    subst (λ ls. ReadAgain read.fields (linked (cleared read.fields read.values) (map links ls)))
+    (links-read order read.fields read.values read.tail r.body read.sound.sound read.body)
+    (subst (λ bytes. body_in Little read.fields bytes ≡ Ok (values, []))
+    (written-is read.fields values written.again (body-bytes class instance written.again bytes all written.is) again)
+    again.again)
+
+-- the fields of an entry as it is printed
+fields-printed : (e : Entry) (fields : List Field) → layout_of e.elements ≡ Some fields
+    → fields ≡ entry_fields (printed_entry e)
+fields-printed e fields layout = sym (ap (λ o. unwrap_or o []) (layout-printed e.elements ∙ layout))
+
 -- a record of a class by the entry held
 record-by : (e : Entry) (class instance : ℕ) (fields : List Field) (values : List Value)
     → layout_of e.elements ≡ Some fields → class ≡ e.class
     → structure_bytes class instance (body_bytes fields values)
     ≡ record_bytes (record { entry = printed_entry e; instance = instance; values = values })
 record-by e class instance fields values layout same =
-    let is : fields ≡ entry_fields (printed_entry e) =
-    sym (ap (λ o. unwrap_or o []) (layout-printed e.elements ∙ layout)) in
+    let is = fields-printed e fields layout in
     λ i. structure_bytes (same i) instance (body_bytes (is i) values)
 
 -- ---- a record of the order
@@ -98,7 +120,7 @@ read-segment held plans s numbers are can = record {
 }
 
 -- the row of a record in the order, by what the record holds
-row-shown : (held : List Entry) (s : Collected) (numbers : List ℕ) (n k : ℕ) (r : Bodied)
+pub row-shown : (held : List Entry) (s : Collected) (numbers : List ℕ) (n k : ℕ) (r : Bodied)
     (read : IsReadRecord held s.order r) → slice_get s.nodes n ≡ Some r → number_of numbers n ≡ Some k
     → row_at (frame_in_order held s numbers) k ≡ record {
       label = record {
@@ -165,6 +187,29 @@ row-written held plans s numbers links n k r fields bytes are can links_are numb
     (entry-class held class read.entry read.there)
     ∙ ap (λ row. record_bytes (row_record f (k, row))) (sym (row-shown held s numbers n k r read there number))
 
+-- Its body reads as its values.
+pub row-reads : (held : List Entry) (plans : Layouts) (s : Collected) (numbers : List ℕ) (links : List Link)
+    (n k : ℕ) (r : Bodied) (fields : List Field) (bytes : List ℕ) → ArePlansOf held plans
+    → CanBeWritten held plans s numbers → AreNewLinks (classes_of s.nodes) numbers links
+    → number_of numbers n ≡ Some k → slice_get s.nodes n ≡ Some r → plan_of plans r.node.class ≡ Some fields
+    → AreBytes bytes
+    → IsRecordOf s.order fields (link_to s.nodes links) r.node.class (link_of links n).instance r.body bytes
+    → ReadAgain (entry_fields (row_at (frame_in_order held s numbers) k).label.entry)
+    (new_values (frame_in_order held s numbers) (row_at (frame_in_order held s numbers) k))
+row-reads held plans s numbers links n k r fields bytes are can links_are number there plan all written =
+    let is = read-segment held plans s numbers are can in
+    let read = record-read held plans s numbers n r is there in
+    let f : Frame = frame_in_order held s numbers in
+    let new : List Link =
+    map (new_link f) (map (renumbered numbers) (map (target_of s.nodes) (links_in read.values))) in
+    subst (λ (row : Row). ReadAgain (entry_fields row.label.entry) (new_values f row))
+    (sym (row-shown held s numbers n k r read there number))
+    (subst (λ fs. ReadAgain fs (linked (cleared read.fields (map unlinked read.values)) new))
+    (fields-printed read.entry read.fields read.layout)
+    (subst (ReadAgain read.fields) (values-written held plans s numbers links read.fields read.values is links_are)
+    (read-by held s.order r read (link_to s.nodes links) r.node.class (link_of links n).instance fields bytes
+    (fields-same held plans s.order r fields read are plan) all written)))
+
 -- ---- the end record
 
 -- What is written of the end record is that of the frame.
@@ -188,3 +233,23 @@ end-written held plans s numbers r fields bytes are can there plan all written =
     ∙ record-by read.entry class 0 read.fields (cleared read.fields (map unlinked read.values)) read.layout
     (entry-class held class read.entry read.there)
     ∙ ap (λ (l : Label). record_bytes (record { entry = l.entry; instance = 0; values = l.values })) (sym label)
+
+-- Its body reads as its values.
+pub end-reads : (held : List Entry) (plans : Layouts) (s : Collected) (numbers : List ℕ) (r : Bodied)
+    (fields : List Field) (bytes : List ℕ) → ArePlansOf held plans → CanBeWritten held plans s numbers
+    → s.end_record ≡ Some r → plan_of plans r.node.class ≡ Some fields → AreBytes bytes
+    → IsRecordOf s.order fields nullified r.node.class 0 r.body bytes
+    → ReadAgain (entry_fields (frame_in_order held s numbers).end.entry) (frame_in_order held s numbers).end.values
+end-reads held plans s numbers r fields bytes are can there plan all written =
+    let reads : ReadsBy plans s.order r = subst (λ o. IsSomeAnd o (ReadsBy plans s.order)) there can.end in
+    let read = read-record held plans s.order r are reads in
+    let label : (frame_of held s).end
+    ≡ record { entry = printed_entry read.entry; values = cleared read.fields (map unlinked read.values) } =
+    ap (λ o. option_map_or (label_of s.order held) o no_label) there ∙ read.label_is in
+    subst (λ (l : Label). ReadAgain (entry_fields l.entry) l.values) (sym label)
+    (subst (λ fs. ReadAgain fs (cleared read.fields (map unlinked read.values)))
+    (fields-printed read.entry read.fields read.layout)
+    (subst (ReadAgain read.fields) (linked-null s.order (map value_number read.values) read.fields read.values
+    read.body.front read.sound.sums read.body.spelled)
+    (read-by held s.order r read nullified r.node.class 0 fields bytes
+    (fields-same held plans s.order r fields read are plan) all written)))

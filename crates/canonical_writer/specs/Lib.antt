@@ -5,3 +5,4 @@ pub mod Filled
 pub mod Writer
 pub mod EndOfFile
 pub mod Closed
+pub mod Alike

@@ -234,6 +234,6 @@ impl FramePart {
 }
 
 /// The items of a slice of bytes are bytes. It is for proofs, and does nothing.
-fn are_bytes(bytes: &[u8])
+pub fn are_bytes(bytes: &[u8])
     ensures { AreBytes bytes.now }
 {}

@@ -1,4 +1,6 @@
 mod Checking
+mod Compares
+mod Copying
 mod Faults
 mod Finding
 mod Items
@@ -10,6 +12,7 @@ mod OneVerdict
 mod Parting
 mod Places
 mod Replies
+mod Said
 mod SpliceWords
 mod Splices
 mod Structures

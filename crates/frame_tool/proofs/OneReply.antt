@@ -15,10 +15,12 @@ use Rattle.frame_tool.specs.declared.judgement.Finding.TheVariants.{Accepted, Re
 use Rattle.frame_tool.specs.declared.judgement.Report.TheVariants.{Summary, Channels}
 use Rattle.frame_tool.specs.Check.{IsFinding}
 use Rattle.frame_tool.specs.Due.{Reply, reply_with, walk_reply, finding_reply, splice_reply, IsFileDue, IsSpliceDue}
-use Rattle.frame_tool.specs.Due.{IsCommandDue}
+use Rattle.frame_tool.specs.Due.{IsSameDue, IsCommandDue}
 use Rattle.frame_tool.specs.Due.{AreFit, EachRunHasADueReply, NoRunHasTwoDueReplies}
-use Rattle.frame_tool.specs.Words.{Form, WalkFile, CheckFile, ListFile, SpliceFiles, command_of}
-use Rattle.splicer.specs.Due.{HoldBytes}
+use Rattle.frame_tool.specs.Words.{Form, WalkFile, CheckFile, ListFile, SameFiles, SpliceFiles, command_of}
+use Rattle.frame_tool.specs.Outcome.{compared}
+use Rattle.frame_reader.specs.Gives.{HoldBytes}
+use Rattle.content_compare.specs.Laws.{EachComparisonHasADue, NoComparisonHasTwoDues}
 use Rattle.splicer.proofs.Dues.{no-two-dues, a-due}
 use Rattle.frame_tool.proofs.OneVerdict.{a_verdict, no_two_verdicts}
 use Rattle.frame_tool.proofs.SpliceWords.{splice_read}
@@ -81,29 +83,47 @@ splice_dues : (files : Files) (to : List ℕ) (from : List (List ℕ)) (first se
 splice_dues files to from first second (a, is, left) (b, also, right) =
     left ∙ ap (splice_reply to) (no-two-dues files from None [] 0 a b is.from also.from) ∙ sym right
 
-command_due : (files : Files) (words : List (List ℕ)) (command : Option Form) → AreFit command files
-    → command_of words ≡ command → (reply : Reply) × IsCommandDue files command reply
-command_due files words None bytes is = (reply_with Usage, refl)
-command_due files words (Some (WalkFile file)) bytes is = file_due _ walk_reply a_verdict (files file)
-command_due files words (Some (CheckFile file)) bytes is = file_due _ (finding_reply Summary) a_finding (files file)
-command_due files words (Some (ListFile file)) bytes is = file_due _ (finding_reply Channels) a_finding (files file)
-command_due files words (Some (SpliceFiles to from)) bytes is =
+-- a comparison has a reply that is due, and no two, by the laws of comparisons
+same_due : EachComparisonHasADue → (files : Files) (name other : List ℕ) → HoldBytes files
+    → (reply : Reply) × IsSameDue name other files reply
+same_due each files name other bytes =
+    let due = each files name other bytes in
+    (reply_with (compared due.0), (due.0, due.1, refl))
+
+same_dues : NoComparisonHasTwoDues → (files : Files) (name other : List ℕ) (first second : Reply)
+    → IsSameDue name other files first → IsSameDue name other files second → first ≡ second
+same_dues alone files name other first second (a, is, left) (b, also, right) =
+    left ∙ ap (λ due. reply_with (compared due)) (alone files name other a b is also) ∙ sym right
+
+command_due : EachComparisonHasADue → (files : Files) (words : List (List ℕ)) (command : Option Form)
+    → AreFit command files → command_of words ≡ command → (reply : Reply) × IsCommandDue files command reply
+command_due each files words None bytes is = (reply_with Usage, refl)
+command_due each files words (Some (WalkFile file)) bytes is = file_due _ walk_reply a_verdict (files file)
+command_due each files words (Some (CheckFile file)) bytes is =
+    file_due _ (finding_reply Summary) a_finding (files file)
+command_due each files words (Some (ListFile file)) bytes is =
+    file_due _ (finding_reply Channels) a_finding (files file)
+command_due each files words (Some (SameFiles first second)) bytes is = same_due each files first second bytes
+command_due each files words (Some (SpliceFiles to from)) bytes is =
     splice_due files to from bytes (splice_read words to from is).some
 
-command_dues : (files : Files) (command : Option Form) (first second : Reply) → IsCommandDue files command first
-    → IsCommandDue files command second → first ≡ second
-command_dues files None first second left right = left ∙ sym right
-command_dues files (Some (WalkFile file)) first second left right =
+command_dues : NoComparisonHasTwoDues → (files : Files) (command : Option Form) (first second : Reply)
+    → IsCommandDue files command first → IsCommandDue files command second → first ≡ second
+command_dues alone files None first second left right = left ∙ sym right
+command_dues alone files (Some (WalkFile file)) first second left right =
     file_dues _ walk_reply no_two_verdicts (files file) first second left right
-command_dues files (Some (CheckFile file)) first second left right =
+command_dues alone files (Some (CheckFile file)) first second left right =
     file_dues _ (finding_reply Summary) no_two_findings (files file) first second left right
-command_dues files (Some (ListFile file)) first second left right =
+command_dues alone files (Some (ListFile file)) first second left right =
     file_dues _ (finding_reply Channels) no_two_findings (files file) first second left right
-command_dues files (Some (SpliceFiles to from)) first second left right =
+command_dues alone files (Some (SameFiles name other)) first second left right =
+    same_dues alone files name other first second left right
+command_dues alone files (Some (SpliceFiles to from)) first second left right =
     splice_dues files to from first second left right
 
-pub a_due_reply : EachRunHasADueReply
-a_due_reply files words bytes = command_due files words (command_of words) bytes refl
+pub a_due_reply : EachComparisonHasADue → EachRunHasADueReply
+a_due_reply each files words bytes = command_due each files words (command_of words) bytes refl
 
-pub no_two_due_replies : NoRunHasTwoDueReplies
-no_two_due_replies files words first second left right = command_dues files (command_of words) first second left right
+pub no_two_due_replies : NoComparisonHasTwoDues → NoRunHasTwoDueReplies
+no_two_due_replies alone files words first second left right =
+    command_dues alone files (command_of words) first second left right

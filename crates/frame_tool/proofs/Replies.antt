@@ -13,14 +13,15 @@ use Rattle.frame_tool.specs.declared.judgement.Finding.{Finding}
 use Rattle.frame_tool.specs.declared.judgement.Finding.TheVariants.{Accepted, Refused}
 use Rattle.frame_tool.specs.declared.judgement.Report.{Report}
 use Rattle.frame_tool.specs.declared.judgement.Report.TheVariants.{Summary, Channels}
-use Rattle.frame_tool.specs.Words.{Form, WalkFile, command_of, output_of}
+use Rattle.frame_tool.specs.Words.{Form, WalkFile, CheckFile, ListFile, SameFiles, SpliceFiles, command_of}
+use Rattle.frame_tool.specs.Words.{output_of}
 use Rattle.frame_tool.specs.Outcome.{line_of}
 use Rattle.frame_tool.specs.Due.{Reply, Output, Nothing, IsFileDue, IsCommandDue, IsAnswer, IsAmong, Prints}
 use Rattle.frame_tool.specs.Due.{AppendsFront, walk_reply, finding_reply, form_asking}
 use Rattle.frame_tool.specs.Walk.{IsVerdict}
 use Rattle.frame_tool.specs.WalkSteps.{ReadsOneFile}
 use Rattle.frame_tool.specs.Check.{IsFinding}
-use Rattle.frame_tool.specs.Run.{Leaves, Keeps, Replies, Runs}
+use Rattle.frame_tool.specs.Run.{Leaves, Keeps, DrawsNoFurther, Replies, Runs}
 use Rattle.frame_tool.proofs.OneVerdict.{no_two_verdicts}
 use Rattle.frame_tool.proofs.OneReply.{NoneHasTwo, file_dues, no_two_findings}
 
@@ -176,6 +177,15 @@ keeps_all form old new name unwritten reads =
     let P : Option (List ℕ) → Type 0 = λ to. Keeps to old new in
     subst P (sym unwritten) (reads.slots, reads.files)
 
+-- how far the input of a command that writes nothing is drawn, is not bounded
+unbounded : (form : Form) (files : Files) (old new : Outside) → output_of (Some form) ≡ None
+    → DrawsNoFurther (Some form) files old new
+unbounded (WalkFile file) files old new none = tt
+unbounded (CheckFile file) files old new none = tt
+unbounded (ListFile file) files old new none = tt
+unbounded (SameFiles first second) files old new none = tt
+unbounded (SpliceFiles to from) files old new none = cc
+
 -- something was found of the file, and its reply printed
 pub replies_found : (A : Type 0) (is : List ℕ → A → Type 0) (reply_of : A → Reply) (form : Form)
     → AnswersOn A is reply_of form → (old new : Outside) (before after : Printed) (name : List ℕ) (a : A)
@@ -197,6 +207,7 @@ replies_found A is reply_of form on old new before after name a outcome reads fo
           (writes_nothing is reply_of on.nothing (files name) reply due) (reads.files ∙ told);
       misses = λ files told rose reply due.
           missed_due is reply_of (files name) old.misses new.misses (reads.missed files told) rose reply due;
+      taken = λ files told. unbounded form files old new on.unwritten;
       among = among_due outcome (reply_of a).outcome (Some form) answers (on.among a);
       usage = λ none. absurd cc;
       device = λ failed. inr (device failed);
@@ -226,6 +237,7 @@ replies_failed A is reply_of form on old new sink name outcome reads failed devi
       (writes_nothing is reply_of on.nothing (files name) reply due) (reads.files ∙ told);
   misses = λ files told rose reply due.
       missed_due is reply_of (files name) old.misses new.misses (reads.missed files told) rose reply due;
+  taken = λ files told. unbounded form files old new on.unwritten;
   among = among_due outcome Device (Some form) (inr failed) tt;
   usage = λ none. absurd cc;
   device = λ lost. inl (device lost);
@@ -253,6 +265,7 @@ replies_usage words outside before after outcome answers prints device = record 
   output = λ files told reply due.
       leaves_all files outside.files outcome reply.output (ap (λ (r : Reply). r.output) due) told;
   misses = λ files told rose reply due. absurd (omega (arith, rose));
+  taken = λ files told. tt;
   among = among_due outcome Usage None answers tt;
   usage = λ none. answers;
   device = λ failed. inr (device failed);
@@ -273,6 +286,7 @@ more_words IsDueTo command count words old new before after outcome few replies 
   text = replies.text;
   output = replies.output;
   misses = replies.misses;
+  taken = replies.taken;
   among = replies.among;
   usage = replies.usage;
   device = replies.device;

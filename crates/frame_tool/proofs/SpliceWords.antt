@@ -1,4 +1,4 @@
--- Words that are read as a splice.
+-- Words that are read as a command: those of a splice, and how many they are.
 use Rattle.std.proofs.Common.{◌≡◌, ℕ, ◌+◌, ◌<◌, ◌≤◌, ◌^◌, Bool, true, false, cond, ◌||◌, leb, List, [], ◌∷◌, length}
 use Rattle.std.proofs.Common.{Option, Some, None, String, All, codes, bytes_eq, string_bytes, option_map, ◌≢◌}
 use Rattle.std.proofs.Common.{refl, sym, subst, ◌∙◌, arith, leb-false}
@@ -8,8 +8,8 @@ use Rattle.std.proofs.lemmas.List.Elements.{All-nil, All-cons}
 use Rattle.std.proofs.lemmas.Slice.Eq.{bytes_eq-Decides}
 use Rattle.std.specs.List.{list_any}
 use Rattle.file_grammar.specs.Fault.{is_empty}
-use Rattle.frame_tool.specs.Words.{Form, WalkFile, CheckFile, ListFile, SpliceFiles, texts, single, apart, copied}
-use Rattle.frame_tool.specs.Words.{spliced, command_of}
+use Rattle.frame_tool.specs.Words.{Form, WalkFile, CheckFile, ListFile, SpliceFiles, texts, single, compared}
+use Rattle.frame_tool.specs.Words.{apart, copied, spliced, command_of}
 
 -- A splice that words are: of one file or more, of fewer than 2^32, none of which is the output.
 pub record IsRead (words : List (List ℕ)) (to : List ℕ) (from : List (List ℕ)) : Type 0 where
@@ -69,35 +69,68 @@ one_word : (form : List ℕ → Form) (splice : Form) (word : Option (List ℕ))
 one_word form splice None apart is = cc
 one_word form splice (Some file) apart is = apart file cc
 
+-- words that are compared are no splice
+none_compared : (words : List (List ℕ)) (to : List ℕ) (from : List (List ℕ))
+    → compared words ≡ Some (SpliceFiles to from) → ⊥
+none_compared [] to from is = cc
+none_compared (file ∷ []) to from is = cc
+none_compared (file ∷ other ∷ []) to from is = cc
+none_compared (file ∷ other ∷ more ∷ others) to from is = cc
+
 -- words that are a splice
 pub splice_read : (words : List (List ℕ)) (to : List ℕ) (from : List (List ℕ))
     → command_of words ≡ Some (SpliceFiles to from) → IsRead words to from
 splice_read [] to from is = absurd cc
 splice_read (first ∷ words) to from is =
     by (bytes_eq first (codes "walk")) (bytes_eq first (codes "check")) (bytes_eq first (codes "list"))
-    (bytes_eq first (codes "copy")) (bytes_eq first (codes "splice")) is
+    (bytes_eq first (codes "same")) (bytes_eq first (codes "copy")) (bytes_eq first (codes "splice")) is
   where
-    by : (walk check list copy splice : Bool)
+    by : (walk check list same copy splice : Bool)
         → cond walk (option_map WalkFile (single words))
         (cond check (option_map CheckFile (single words))
         (cond list (option_map ListFile (single words))
+        (cond same (compared words)
         (cond copy (copied words)
-        (cond splice (spliced words) None)))) ≡ Some (SpliceFiles to from)
+        (cond splice (spliced words) None))))) ≡ Some (SpliceFiles to from)
         → IsRead (first ∷ words) to from
-    by true check list copy splice same =
-        absurd (one_word WalkFile (SpliceFiles to from) (single words) (λ file no. cc) same)
-    by false true list copy splice same =
-        absurd (one_word CheckFile (SpliceFiles to from) (single words) (λ file no. cc) same)
-    by false false true copy splice same =
-        absurd (one_word ListFile (SpliceFiles to from) (single words) (λ file no. cc) same)
-    by false false false true splice same = copied_read first words to from same
-    by false false false false true same = spliced_read first words to from same
-    by false false false false false same = absurd cc
+    by true check list same copy splice form =
+        absurd (one_word WalkFile (SpliceFiles to from) (single words) (λ file no. cc) form)
+    by false true list same copy splice form =
+        absurd (one_word CheckFile (SpliceFiles to from) (single words) (λ file no. cc) form)
+    by false false true same copy splice form =
+        absurd (one_word ListFile (SpliceFiles to from) (single words) (λ file no. cc) form)
+    by false false false true copy splice form = absurd (none_compared words to from form)
+    by false false false false true splice form = copied_read first words to from form
+    by false false false false false true form = spliced_read first words to from form
+    by false false false false false false form = absurd cc
 
--- a command has a word
-pub some_word : (words : List (List ℕ)) (form : Form) → command_of words ≡ Some form → 0 < length words
-some_word [] form is = absurd cc
-some_word (word ∷ words) form is = omega arith
+-- one word is no command
+none_alone : (word : List ℕ) → command_of (word ∷ []) ≡ None
+none_alone word =
+    by (bytes_eq word (codes "walk")) (bytes_eq word (codes "check")) (bytes_eq word (codes "list"))
+    (bytes_eq word (codes "same")) (bytes_eq word (codes "copy")) (bytes_eq word (codes "splice"))
+  where
+    none : Option Form
+    none = None
+
+    by : (walk check list same copy splice : Bool)
+        → cond walk none (cond check none (cond list none (cond same none (cond copy none (cond splice none none)))))
+        ≡ None
+    by true check list same copy splice = refl
+    by false true list same copy splice = refl
+    by false false true same copy splice = refl
+    by false false false true copy splice = refl
+    by false false false false true splice = refl
+    by false false false false false true = refl
+    by false false false false false false = refl
+
+-- a command has two words or more
+pub two_words : (words : List (List ℕ)) (form : Form) → command_of words ≡ Some form → 2 ≤ length words
+two_words [] form is = absurd cc
+two_words (word ∷ []) form is =
+    let none = none_alone word in
+    absurd cc
+two_words (word ∷ other ∷ words) form is = omega arith
 
 -- whether texts are equal does not go by their order
 pub bytes_eq-sym : (xs ys : List ℕ) → bytes_eq xs ys ≡ bytes_eq ys xs

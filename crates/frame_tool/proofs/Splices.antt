@@ -1,17 +1,18 @@
 -- What a run of a splice does, by what the splice of the files did and what was printed.
-use Rattle.std.proofs.Common.{◌≡◌, ℕ, ◌+◌, ◌<◌, Bool, true, false, List, [], length, take, Option, Some, Result, Ok}
+use Rattle.std.proofs.Common.{◌≡◌, ℕ, ◌+◌, ◌<◌, Bool, true, false, List, length, take, Option, Some, Result, Ok}
 use Rattle.std.proofs.Common.{Err, IfErr, is_ok, inl, inr, ◌⊎◌, refl, sym, ap, ◌∙◌, subst, arith}
 use Rattle.std.proofs.lemmas.Bool.{false≢true}
 use Rattle.std.proofs.lemmas.List.{take_all}
-use Rattle.std.proofs.Math.Seq.{take-nil}
 use Rattle.frame_outside.specs.Counts.{Rose}
 use Rattle.frame_outside.specs.Shelf.{Outside, Files, Told, holding}
-use Rattle.frame_outside.specs.Sink.{Output as Printed, Appends}
+use Rattle.frame_outside.specs.Sink.{Output as Printed}
 use Rattle.canonical_writer.specs.declared.writer.Summary.{Summary}
 use Rattle.splicer.specs.declared.errors.SpliceError.{SpliceError}
 use Rattle.splicer.specs.declared.errors.SpliceError.TheVariants as splice
 use Rattle.splicer.specs.Due.{Due, Writes, Stops, IsDue, answer_of, is_whole, output_of}
 use Rattle.splicer.specs.Due as SpliceDue
+use Rattle.frame_reader.specs.Gives.{HoldBytes}
+use Rattle.splicer.specs.Drawn.{DrawsInAll}
 use Rattle.splicer.specs.Errors.{IsOfInputs}
 use Rattle.splicer.specs.Left.{IsPart, LeavesFile}
 use Rattle.splicer.specs.Made.{WritesOneFile}
@@ -19,9 +20,9 @@ use Rattle.frame_tool.specs.declared.outcome.Outcome.{Outcome}
 use Rattle.frame_tool.specs.declared.outcome.Outcome.TheVariants.{Done, Device, NoMemory}
 use Rattle.frame_tool.specs.Words.{SpliceFiles}
 use Rattle.frame_tool.specs.Outcome.{line_of, spliced}
-use Rattle.frame_tool.specs.Due.{Reply, IsSpliceDue, IsAnswer, IsAmong, Prints, AppendsFront}
-use Rattle.frame_tool.specs.Run.{Leaves, Replies, has_failed}
-use Rattle.frame_tool.proofs.Replies.{among_due, prints_faults}
+use Rattle.frame_tool.specs.Due.{splice_reply, IsSpliceDue, IsAnswer, IsAmong, Prints}
+use Rattle.frame_tool.specs.Run.{Replies, has_failed}
+use Rattle.frame_tool.proofs.Said.{replies_said}
 
 -- what a splice of so many files did and answered
 pub record HasSpliced (old new : Outside) (to : List ℕ) (from : List (List ℕ)) (count : ℕ)
@@ -32,17 +33,11 @@ pub record HasSpliced (old new : Outside) (to : List ℕ) (from : List (List ℕ
       (λ files. (due : Due) → IsDue files from due → SpliceDue.Leaves files new.files to result due)
   pub misses : Told old.files
       (λ files. old.misses < new.misses → (due : Due) → IsDue files from due → answer_of due ≡ Err splice.Device)
+  pub taken : Told old.files (λ files. HoldBytes files → DrawsInAll files from old new)
   pub inputs : IfErr result (IsOfInputs count)
   pub shelf : WritesOneFile old new to count
 
 -- ---- the answer
-
--- an answer for one that is itself an answer for another
-answer_on : (outcome said due : Outcome) → IsAnswer outcome said → IsAnswer said due → IsAnswer outcome due
-answer_on outcome said due (inl same) (inl also) = inl (same ∙ also)
-answer_on outcome said due (inl same) (inr (inl device)) = inr (inl (same ∙ device))
-answer_on outcome said due (inl same) (inr (inr full)) = inr (inr (same ∙ full))
-answer_on outcome said due (inr failed) also = inr failed
 
 -- the answer of a splice is one for the splice that is due
 spliced_answer : (result : Result Summary SpliceError) (due : Due) → SpliceDue.IsAnswer result due
@@ -61,46 +56,6 @@ spliced_among (Err splice.FramesLimit) to from inputs = tt
 spliced_among (Err splice.OutputLimit) to from inputs = tt
 spliced_among (Err splice.Device) to from inputs = tt
 spliced_among (Err splice.NoMemory) to from inputs = tt
-
--- ---- what is printed
-
--- a front of no text is a front of each
-front_of_none : (text : List ℕ) (before after : Printed) → AppendsFront before after [] → AppendsFront before after text
-front_of_none text before after front =
-    record { count = 0; appends = subst (Appends before after) (take-nil front.count) front.appends }
-
--- where the outside or memory failed, and a front of no text was printed, a front of each text was
-prints_any : (outcome : Outcome) (text : List ℕ) (before after : Printed) → (outcome ≡ Device) ⊎ (outcome ≡ NoMemory)
-    → Prints outcome [] before after → Prints outcome text before after
-prints_any outcome text before after (inl device) =
-    let P : Outcome → Type 0 = λ o. Prints o [] before after → Prints o text before after in
-    subst P (sym device) (front_of_none text before after)
-prints_any outcome text before after (inr full) =
-    let P : Outcome → Type 0 = λ o. Prints o [] before after → Prints o text before after in
-    subst P (sym full) (front_of_none text before after)
-
--- an answer for Device or NoMemory is Device or NoMemory
-failed_on : (outcome said : Outcome) → IsAnswer outcome said → (said ≡ Device) ⊎ (said ≡ NoMemory)
-    → (outcome ≡ Device) ⊎ (outcome ≡ NoMemory)
-failed_on outcome said (inl same) (inl device) = inl (same ∙ device)
-failed_on outcome said (inl same) (inr full) = inr (same ∙ full)
-failed_on outcome said (inr failed) also = failed
-
--- these print no line
-no_line : (outcome : Outcome) → (outcome ≡ Device) ⊎ (outcome ≡ NoMemory) → line_of outcome ≡ []
-no_line outcome (inl device) = ap line_of device
-no_line outcome (inr full) = ap line_of full
-
--- the line of an answer for the due one was printed as that of the due one
-prints_on : (outcome said due : Outcome) (before after : Printed) → IsAnswer outcome said → IsAnswer said due
-    → Prints outcome (line_of said) before after → Prints outcome (line_of due) before after
-prints_on outcome said due before after answers (inl same) prints =
-    let P : Outcome → Type 0 = λ o. Prints outcome (line_of o) before after in
-    subst P same prints
-prints_on outcome said due before after answers (inr failed) prints =
-    let P : List ℕ → Type 0 = λ line. Prints outcome line before after in
-    prints_any outcome (line_of due) before after (failed_on outcome said answers failed)
-    (subst P (no_line said failed) prints)
 
 -- ---- what is written
 
@@ -171,38 +126,28 @@ pub replies_spliced : (old new : Outside) (before after : Printed) (to : List �
     → (is_ok result ≡ true → outcome ≡ Done)
     → (outcome ≡ Device → Rose old.faults new.faults ⊎ Rose before.faults after.faults)
     → Replies (IsSpliceDue to from) (Some (SpliceFiles to from)) (count + 1) old new before after outcome
-replies_spliced old new before after to from count result said outcome has gave answers prints done device = record {
-  answer = λ files told reply (due, is, same).
-      let P : Reply → Type 0 = λ r. IsAnswer outcome r.outcome in
-      subst P (sym same) (answer_on outcome said (spliced (answer_of due)) answers (stands files told due is));
-  text = λ files told reply (due, is, same).
-      let P : Reply → Type 0 = λ r. Prints outcome r.text before after in
-      subst P (sym same)
-      (prints_on outcome said (spliced (answer_of due)) before after answers (stands files told due is) prints);
-  output = λ files told reply (due, is, same).
-      let P : Reply → Type 0 = λ r. Leaves files new.files outcome r.output in
-      subst P (sym same) (leaves_on result due outcome files new.files to answers_result (has.answer files told due is)
-      done (has.leaves files told due is));
-  misses = λ files told rose reply (due, is, same).
-      ap (λ (r : Reply). r.outcome) same ∙ ap spliced (has.misses files told rose due is);
-  among = among_due outcome (spliced result) (Some (SpliceFiles to from)) answers_result
-      (spliced_among result to from (subst (λ n. IfErr result (IsOfInputs n)) has.counted has.inputs));
-  usage = λ none. absurd cc;
-  device = device;
-  faults = has.shelf.faults;
-  missed = has.shelf.misses;
-  sink = prints_faults outcome (line_of said) before after prints;
-  keeps = (has.shelf.slots, has.shelf.files);
-  given = omega (arith, has.shelf.given);
-}
+replies_spliced old new before after to from count result said outcome has gave answers prints done device =
+    replies_said Due (λ files due. IsDue files from due) (splice_reply to) (SpliceFiles to from) (count + 1) old new
+    before after said outcome (record {
+      line = λ due. refl;
+      answer = λ files told due is.
+          let P : Outcome → Type 0 = λ o. IsAnswer o (spliced (answer_of due)) in
+          subst P gave (spliced_answer result due (has.answer files told due is));
+      output = λ files told due is.
+          leaves_on result due outcome files new.files to answers_result (has.answer files told due is) done
+          (has.leaves files told due is);
+      misses = λ files told rose due is. ap spliced (has.misses files told rose due is);
+      taken = has.taken;
+      among =
+          let P : Outcome → Type 0 = λ o. IsAmong o (Some (SpliceFiles to from)) in
+          subst P gave (spliced_among result to from (subst (λ n. IfErr result (IsOfInputs n)) has.counted has.inputs));
+      faults = has.shelf.faults;
+      missed = has.shelf.misses;
+      keeps = (has.shelf.slots, has.shelf.files);
+      given = omega (arith, has.shelf.given);
+    }) answers prints device
   where
     answers_result : IsAnswer outcome (spliced result)
     answers_result =
         let P : Outcome → Type 0 = λ o. IsAnswer outcome o in
         subst P (sym gave) answers
-
-    stands : (files : Files) → old.files ≡ Some files → (due : Due) → IsDue files from due
-        → IsAnswer said (spliced (answer_of due))
-    stands files told due is =
-        let P : Outcome → Type 0 = λ o. IsAnswer o (spliced (answer_of due)) in
-        subst P gave (spliced_answer result due (has.answer files told due is))

@@ -9,14 +9,18 @@ use Rattle.file_content.specs.declared.state.TableState.TheVariants as state
 use Rattle.frame_outside.specs.Shelf.{Files}
 use Rattle.frame_outside.specs.Sink.{Output as Printed, Appends}
 use Rattle.frame_tool.specs.declared.outcome.Outcome.{Outcome}
-use Rattle.frame_tool.specs.declared.outcome.Outcome.TheVariants.{Done, Fault, Clash, FramesLimit, OutputLimit}
+use Rattle.frame_tool.specs.declared.outcome.Outcome.TheVariants.{Done, Same, Different, Fault, Clash}
+use Rattle.frame_tool.specs.declared.outcome.Outcome.TheVariants.{FramesLimit, OutputLimit}
 use Rattle.frame_tool.specs.declared.outcome.Outcome.TheVariants.{Usage, Device, NoMemory}
 use Rattle.frame_tool.specs.declared.verdict.Verdict.{Verdict}
 use Rattle.frame_tool.specs.declared.verdict.Verdict.TheVariants.{Sound, Wrong}
-use Rattle.splicer.specs.Due.{Due, HoldBytes, answer_of, is_whole, output_of}
+use Rattle.frame_reader.specs.Gives.{HoldBytes}
+use Rattle.splicer.specs.Due.{Due, answer_of, is_whole, output_of}
 use Rattle.splicer.specs.Due as SpliceDue
-use Rattle.frame_tool.specs.Outcome.{line_of, spliced}
-use Rattle.frame_tool.specs.Words.{Form, WalkFile, CheckFile, ListFile, SpliceFiles, command_of}
+use Rattle.content_compare.specs.Due.{Answer}
+use Rattle.content_compare.specs.Due as CompareDue
+use Rattle.frame_tool.specs.Outcome.{line_of, compared, spliced}
+use Rattle.frame_tool.specs.Words.{Form, WalkFile, CheckFile, ListFile, SameFiles, SpliceFiles, command_of}
 use Rattle.frame_tool.specs.declared.judgement.Finding.{Finding}
 use Rattle.frame_tool.specs.declared.judgement.Finding.TheVariants.{Accepted, Refused}
 use Rattle.frame_tool.specs.declared.judgement.Report.{Report}
@@ -96,6 +100,11 @@ IsWalkDue = IsFileDue IsVerdict walk_reply
 abbrev pub IsReportDue : Report → Option (List ℕ) → Reply → Type 0
 IsReportDue report = IsFileDue IsFinding (finding_reply report)
 
+-- the reply that is due to `same`
+abbrev pub IsSameDue : List ℕ → List ℕ → Files → Reply → Type 0
+IsSameDue first second files reply =
+    (due : Answer) × CompareDue.IsDue files first second due × (reply ≡ reply_with (compared due))
+
 -- the reply of a splice by what is due of it
 abbrev pub splice_reply : List ℕ → Due → Reply
 splice_reply to due = record {
@@ -112,6 +121,7 @@ IsCommandDue files None reply = reply ≡ reply_with Usage
 IsCommandDue files (Some (WalkFile file)) reply = IsWalkDue (files file) reply
 IsCommandDue files (Some (CheckFile file)) reply = IsReportDue Summary (files file) reply
 IsCommandDue files (Some (ListFile file)) reply = IsReportDue Channels (files file) reply
+IsCommandDue files (Some (SameFiles first second)) reply = IsSameDue first second files reply
 IsCommandDue files (Some (SpliceFiles to from)) reply = IsSpliceDue to from files reply
 
 -- the reply that is due to words over the files that are held
@@ -127,10 +137,14 @@ abbrev pub IsAmong : Outcome → Option Form → Type 0
 IsAmong Device command = ⊤
 IsAmong NoMemory command = ⊤
 IsAmong Usage None = ⊤
+IsAmong Same (Some (SameFiles first second)) = ⊤
+IsAmong (Different place) (Some (SameFiles first second)) = ⊤
+IsAmong Done (Some (SameFiles first second)) = ⊥
 IsAmong Done (Some form) = ⊤
 IsAmong (Fault file at field reason) (Some (WalkFile name)) = (file ≡ 0) × (field ≡ 0)
 IsAmong (Fault file at field reason) (Some (CheckFile name)) = file ≡ 0
 IsAmong (Fault file at field reason) (Some (ListFile name)) = file ≡ 0
+IsAmong (Fault file at field reason) (Some (SameFiles first second)) = file < 2
 IsAmong (Fault file at field reason) (Some (SpliceFiles to from)) = file < length from
 IsAmong (Clash file class) (Some (SpliceFiles to from)) = file < length from
 IsAmong FramesLimit (Some (SpliceFiles to from)) = ⊤
@@ -148,8 +162,10 @@ Prints Device text old new = AppendsFront old new text
 Prints NoMemory text old new = AppendsFront old new text
 Prints _ text old new = Appends old new text
 
--- what is due of a splice is said of files that hold bytes, and that of any other command of all files
+-- what is due of a comparison and of a splice is said of files that hold bytes, and that of any other command of all
+-- files
 abbrev pub AreFit : Option Form → Files → Type 0
+AreFit (Some (SameFiles first second)) files = HoldBytes files
 AreFit (Some (SpliceFiles to from)) files = HoldBytes files
 AreFit command files = ⊤
 

@@ -7,3 +7,4 @@ pub mod Joined
 pub mod Listing
 pub mod Due
 pub mod Run
+pub mod Headline

@@ -7,6 +7,10 @@ use Rattle.frame_tool.specs.declared.outcome.Outcome.TheVariants.{TableLies, Cla
 use Rattle.frame_tool.specs.declared.outcome.Outcome.TheVariants.{Device, NoMemory}
 use Rattle.file_grammar.specs.Reason.{number_of, name_of}
 use Rattle.canonical_writer.specs.declared.writer.Summary.{Summary}
+use Rattle.content_compare.specs.declared.answers.Comparison.{Comparison}
+use Rattle.content_compare.specs.declared.answers.Comparison.TheVariants as comparison
+use Rattle.content_compare.specs.declared.answers.CompareError.{CompareError}
+use Rattle.content_compare.specs.declared.answers.CompareError.TheVariants as compare
 use Rattle.splicer.specs.declared.errors.SpliceError.{SpliceError}
 use Rattle.splicer.specs.declared.errors.SpliceError.TheVariants as splice
 
@@ -42,6 +46,14 @@ line_of FramesLimit = codes "frames limit\n"
 line_of Usage = codes "usage\n"
 line_of Device = []
 line_of NoMemory = []
+
+-- the answer of a comparison
+abbrev pub compared : Result Comparison CompareError → Outcome
+compared (Ok comparison.Same) = Same
+compared (Ok (comparison.Different place)) = Different place
+compared (Err (compare.Fault file fault)) = Fault file fault.at fault.field fault.reason
+compared (Err compare.Device) = Device
+compared (Err compare.NoMemory) = NoMemory
 
 -- the answer where a splice was not written whole, and where it was
 abbrev pub stopped : SpliceError → Outcome

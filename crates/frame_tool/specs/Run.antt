@@ -1,13 +1,15 @@
 -- What a run does, by the reply that is due: the clauses that all commands share.
-use Rattle.std.specs.Prelude.{◌≡◌, ℕ, ◌+◌, ◌<◌, ◌≤◌, ◌⊎◌, Bool, true, false, List, length, take, Option, Some, None}
+use Rattle.std.specs.Prelude.{◌≡◌, ℕ, ◌+◌, ◌<◌, ◌≤◌, ◌⊎◌, ⊤, Bool, true, false, List, length, take, Option, Some, None}
 use Rattle.frame_outside.specs.Counts.{Rose}
 use Rattle.frame_outside.specs.Shelf.{Files, Outside, Told}
 use Rattle.frame_outside.specs.Sink.{Output as Printed}
 use Rattle.splicer.specs.Left.{LeavesFile}
+use Rattle.frame_reader.specs.Gives.{HoldBytes}
 use Rattle.splicer.specs.Made.{KeepsSlots, KeepsFiles}
+use Rattle.splicer.specs.Drawn.{DrawsInAll}
 use Rattle.frame_tool.specs.declared.outcome.Outcome.{Outcome}
 use Rattle.frame_tool.specs.declared.outcome.Outcome.TheVariants.{Usage, Device, NoMemory}
-use Rattle.frame_tool.specs.Words.{Form, command_of, output_of}
+use Rattle.frame_tool.specs.Words.{Form, SpliceFiles, command_of, output_of}
 use Rattle.frame_tool.specs.Due.{Reply, Output, Nothing, Bytes, IsDue, IsAnswer, IsAmong, Prints}
 
 -- the outside or memory failed
@@ -27,17 +29,24 @@ abbrev pub Keeps : Option (List ℕ) → Outside → Outside → Type 0
 Keeps None old new = (take (length old.slots) new.slots ≡ old.slots) × (new.files ≡ old.files)
 Keeps (Some to) old new = KeepsSlots old new to × KeepsFiles old new to
 
+-- how far inputs are drawn, where that is bounded
+abbrev pub DrawsNoFurther : Option Form → Files → Outside → Outside → Type 0
+DrawsNoFurther (Some (SpliceFiles to from)) files old new = HoldBytes files → DrawsInAll files from old new
+DrawsNoFurther command files old new = ⊤
+
 -- A command of so many words, to which this is due, was run from an outside and a sink to those after it, and answered.
 pub record Replies (IsDueTo : Files → Reply → Type 0) (command : Option Form) (words : ℕ) (old new : Outside)
     (before after : Printed) (outcome : Outcome) : Type 0 where
   -- over a shelf that tells its files: the answer is the due one, or Device or NoMemory; the text is printed, and the
-  -- file is written, as they are due; and a name that is not held is asked for only where Device is due
+  -- file is written, as they are due; a name that is not held is asked for only where Device is due; and reading ahead
+  -- is bounded
   pub answer : Told old.files (λ files. (reply : Reply) → IsDueTo files reply → IsAnswer outcome reply.outcome)
   pub text : Told old.files (λ files. (reply : Reply) → IsDueTo files reply → Prints outcome reply.text before after)
   pub output : Told old.files (λ files. (reply : Reply) → IsDueTo files reply
       → Leaves files new.files outcome reply.output)
   pub misses : Told old.files (λ files. old.misses < new.misses → (reply : Reply) → IsDueTo files reply
       → reply.outcome ≡ Device)
+  pub taken : Told old.files (λ files. DrawsNoFurther command files old new)
   -- over every shelf
   pub among : IsAmong outcome command
   pub usage : command ≡ None → IsAnswer outcome Usage

@@ -7,13 +7,14 @@ use Rattle.std.specs.Str.{bytes_eq}
 use Rattle.std.specs.String.{string_bytes}
 use Rattle.std.specs.declared.string.String.{String}
 use Rattle.frame_tool.specs.declared.command.Command.{Command}
-use Rattle.frame_tool.specs.declared.command.Command.TheVariants.{Walk, Check, List as ListCommand, Splice}
+use Rattle.frame_tool.specs.declared.command.Command.TheVariants.{Walk, Check, List as ListCommand, Same, Splice}
 
 -- a command with its words as lists of bytes
 pub data Form : Type 0 where
   WalkFile : (file : List ℕ) → Form
   CheckFile : (file : List ℕ) → Form
   ListFile : (file : List ℕ) → Form
+  SameFiles : (first second : List ℕ) → Form
   SpliceFiles : (to : List ℕ) (from : List (List ℕ)) → Form
 
 -- the words as lists of bytes
@@ -24,12 +25,18 @@ abbrev pub form_of : Command → Form
 form_of (Walk file) = WalkFile file.now
 form_of (Check file) = CheckFile file.now
 form_of (ListCommand file) = ListFile file.now
+form_of (Same first second) = SameFiles first.now second.now
 form_of (Splice to from) = SpliceFiles to.now (texts from.now)
 
 -- one word
 abbrev pub single : List (List ℕ) → Option (List ℕ)
 single (word ∷ []) = Some word
 single _ = None
+
+-- two words
+abbrev pub compared : List (List ℕ) → Option Form
+compared (first ∷ second ∷ []) = Some (SameFiles first second)
+compared _ = None
 
 -- the splice of files to one that is none of them
 abbrev pub apart : List ℕ → List (List ℕ) → Option Form
@@ -51,8 +58,9 @@ command_named word words =
     if bytes_eq word (codes "walk") then option_map WalkFile (single words)
     else (if bytes_eq word (codes "check") then option_map CheckFile (single words)
     else (if bytes_eq word (codes "list") then option_map ListFile (single words)
+    else (if bytes_eq word (codes "same") then compared words
     else (if bytes_eq word (codes "copy") then copied words
-    else (if bytes_eq word (codes "splice") then spliced words else None))))
+    else (if bytes_eq word (codes "splice") then spliced words else None)))))
 
 abbrev pub command_of : List (List ℕ) → Option Form
 command_of [] = None

@@ -1,7 +1,7 @@
 //! The words of the command line.
 
 ghost use Rattle.std.specs.Prelude.{◌≡◌, option_map};
-ghost use Rattle.frame_tool.specs.Words.{command_of, form_of, single, copied, spliced, apart, texts};
+ghost use Rattle.frame_tool.specs.Words.{command_of, form_of, single, compared, copied, spliced, apart, texts};
 
 /// A command, read from the words of the command line.
 #[derive(Clone, Copy)]
@@ -12,6 +12,8 @@ pub enum Command<'a> {
     Check { file: &'a str },
     /// `list FILE`: prints the channels.
     List { file: &'a str },
+    /// `same A B`: compares what two files hold.
+    Same { first: &'a str, second: &'a str },
     /// `splice OUT FILES`: writes the frames of all files; `copy FILE OUT` is that of one file.
     Splice { to: &'a str, from: &'a [String] },
 }
@@ -33,6 +35,7 @@ pub fn read_words(words: &[String]) -> Option<Command<'_>>
         "list" => Some(Command::List {
             file: single(words)?,
         }),
+        "same" => compared(words),
         "copy" => copied(words),
         "splice" => spliced(words),
         _ => None,
@@ -45,6 +48,19 @@ fn single(words: &[String]) -> Option<&str>
 {
     match words {
         [word] => Some(word.as_str()),
+        _ => None,
+    }
+}
+
+/// `A B`.
+fn compared(words: &[String]) -> Option<Command<'_>>
+    ensures { option_map form_of result ≡ compared (texts words.now) }
+{
+    match words {
+        [first, second] => Some(Command::Same {
+            first: first.as_str(),
+            second: second.as_str(),
+        }),
         _ => None,
     }
 }

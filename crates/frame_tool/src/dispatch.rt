@@ -2,8 +2,8 @@
 
 ghost use Rattle.std.specs.Prelude.{◌≢◌, ◌<◌, ◌+◌, ◌^◌, length, All, Some};
 ghost use Rattle.std.specs.String.{string_bytes};
-ghost use Rattle.frame_tool.specs.Words.{WalkFile, SpliceFiles, texts};
-ghost use Rattle.frame_tool.specs.Due.{IsWalkDue, IsReportDue, IsSpliceDue, form_asking};
+ghost use Rattle.frame_tool.specs.Words.{WalkFile, SameFiles, SpliceFiles, texts};
+ghost use Rattle.frame_tool.specs.Due.{IsWalkDue, IsReportDue, IsSameDue, IsSpliceDue, form_asking};
 ghost use Rattle.frame_tool.specs.Run.{Runs, Replies};
 
 use crate::answer::{answer_finding, answer_line, answer_walk};
@@ -12,6 +12,7 @@ use crate::command::{Command, read_words};
 use crate::judgement::Report;
 use crate::outcome::Outcome;
 use crate::walk::walk_file;
+use content_compare::{CompareError, compare_files};
 use frame_outside::{Shelf, ShelfError, Sink};
 use splicer::{SpliceError, splice};
 use std::alloc::Global;
@@ -35,6 +36,7 @@ pub fn run<S: Shelf, O: Sink>(
         Some(Command::Walk { file }) => run_walk(alloc, file, shelf, out),
         Some(Command::Check { file }) => run_report(alloc, Report::Summary, file, shelf, out),
         Some(Command::List { file }) => run_report(alloc, Report::Channels, file, shelf, out),
+        Some(Command::Same { first, second }) => run_same(alloc, first, second, shelf, out),
         Some(Command::Splice { to, from }) => run_splice(alloc, to, from, shelf, out),
     }
 }
@@ -67,6 +69,23 @@ fn run_report<S: Shelf, O: Sink>(
         Ok(finding) => answer_finding(alloc, out, report, finding),
         Err(ShelfError::Failed) => Outcome::Device,
         Err(ShelfError::NoMemory) => Outcome::NoMemory,
+    }
+}
+
+/// `same A B`.
+fn run_same<S: Shelf, O: Sink>(
+    alloc: Global,
+    first: &str,
+    second: &str,
+    shelf: &mut S,
+    out: &mut O,
+) -> Outcome
+    ensures { Replies (IsSameDue first.now second.now) (Some (SameFiles first.now second.now)) 2
+        (S.outside shelf.old) (S.outside shelf.new) (O.output out.old) (O.output out.new) result }
+{
+    match compare_files(alloc, shelf, first, second) {
+        Err(CompareError::Device) => Outcome::Device,
+        answer => answer_line(alloc, out, Outcome::from(answer)),
     }
 }
 

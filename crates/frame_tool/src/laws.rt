@@ -1,6 +1,7 @@
 //! What holds of the definitions that the contracts cite. Nothing is computed here.
 
 ghost use Rattle.frame_tool.specs.Due.{EachRunHasADueReply, NoRunHasTwoDueReplies};
+ghost use Rattle.frame_tool.specs.Headline.{CopiesTellContents, CopiesAreDone, CopiesNameFaults};
 ghost use Rattle.frame_tool.specs.Joined.{AcceptedFilesAreSound, BothNameFaultsOfLengths};
 ghost use Rattle.frame_tool.specs.Joined.{WalksNameNoOthers, NoWalkFaultIsEarlier, FaultsAtOnePlaceAreOne};
 ghost use Rattle.frame_tool.specs.Walk.{EachFileHasAVerdict, NoFileHasTwoVerdicts};
@@ -11,10 +12,19 @@ pub fn each_file_has_one_verdict()
     ensures unique { NoFileHasTwoVerdicts }
 {}
 
-/// Words over files have exactly one reply that is due; those of a splice where the files hold bytes.
+/// Words over files have exactly one reply that is due; those of a comparison or a splice where the files hold bytes.
 pub fn each_run_has_one_due_reply()
     ensures exists { EachRunHasADueReply }
     ensures unique { NoRunHasTwoDueReplies }
+{}
+
+/// The headline, over runs of the program: where no call of the outside fails and memory is there, `copy` is done
+/// exactly on well-formed files, and else names the first fault; a copy is the canonical file of what its source holds;
+/// and two copies are equal bytes exactly where `same` is due of their sources.
+pub fn copies_tell_contents()
+    ensures tell { CopiesTellContents }
+    ensures done { CopiesAreDone }
+    ensures faults { CopiesNameFaults }
 {}
 
 /// A file that `check` accepts is sound for `walk`. Where `check` names a reason of the header, of a length or of

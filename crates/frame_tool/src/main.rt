@@ -27,6 +27,8 @@ mod tests_of_frames;
 #[cfg(test)]
 mod tests_of_reader;
 #[cfg(test)]
+mod tests_of_same;
+#[cfg(test)]
 mod tests_of_tables;
 mod verdict;
 mod walk;

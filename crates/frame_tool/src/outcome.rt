@@ -4,6 +4,7 @@ ghost use Rattle.std.specs.Prelude.{◌≡◌, IfOk};
 ghost use Rattle.std.specs.String.{string_bytes};
 ghost use Rattle.frame_tool.specs.Outcome.{status_of, line_of};
 
+use content_compare::{CompareError, Comparison};
 use file_grammar::Reason;
 use splicer::SpliceError;
 use std::alloc::{AllocError, Global};
@@ -105,6 +106,28 @@ fn fault_line(
     let number = reason.number();
     let name = reason.name();
     format!(in alloc; "fault: file {file} at {at} field {field}: {number} {name}\n")
+}
+
+impl From<Result<Comparison, CompareError>> for Outcome {
+    ghost use Rattle.std.specs.Prelude.{◌≡◌};
+    ghost use Rattle.frame_tool.specs.Outcome.{compared};
+
+    ghost from_gives = { λ answer result. result ≡ compared answer };
+
+    fn from(answer: Result<Comparison, CompareError>) -> Outcome {
+        match answer {
+            Ok(Comparison::Same) => Outcome::Same,
+            Ok(Comparison::Different { place }) => Outcome::Different { place },
+            Err(CompareError::Fault { file, fault }) => Outcome::Fault {
+                file,
+                at: fault.at,
+                field: fault.field,
+                reason: fault.reason,
+            },
+            Err(CompareError::Device) => Outcome::Device,
+            Err(CompareError::NoMemory) => Outcome::NoMemory,
+        }
+    }
 }
 
 impl From<SpliceError> for Outcome {

@@ -47,6 +47,75 @@ pub type Row = (&'static str, &'static [Piece], &'static str);
 /// A name, the pieces of a file, and the texts that `check` and `list` print.
 pub type ListedRow = (&'static str, &'static [Piece], &'static str, &'static str);
 
+/// The file without a frame, with a comment in FrEndOfFile's entry.
+pub const END_COMMENT: &[Piece] = &[
+    Bare(0, 40),
+    Bytes(b"("),
+    Bare(41, 70),
+    Bytes(b"\x04\0end\0"),
+    Bare(73, 253),
+    Bytes(b"\x14\x01\0\0\0\0\0\0"),
+    Bare(261, 273),
+];
+
+/// The file of one frame, where H1:B's data leads to the vector of H1:A and the other vector is left out.
+pub const SHARED: &[Piece] = &[Full(0, 2262), Bytes(b"\0"), Full(2263, 2276), Rest(2366)];
+
+/// The file of one frame with its records in reverse order and other instances.
+pub const REVERSED: &[Piece] = &[
+    Full(0, 40),
+    Full(1534, 2137),
+    Full(2415, 2425),
+    Bytes(b"\x03"),
+    Full(2426, 2505),
+    Full(1180, 1485),
+    Full(2366, 2376),
+    Bytes(b"\x04"),
+    Full(2377, 2401),
+    Bytes(b"\x03"),
+    Full(2402, 2415),
+    Full(2276, 2286),
+    Bytes(b"\x07"),
+    Full(2287, 2366),
+    Full(2227, 2237),
+    Bytes(b"\x06"),
+    Full(2238, 2262),
+    Bytes(b"\x07"),
+    Full(2263, 2268),
+    Bytes(b"\x04"),
+    Full(2269, 2276),
+    Full(2137, 2147),
+    Bytes(b"\x09"),
+    Full(2148, 2227),
+    Full(1485, 1495),
+    Bytes(b"\x02"),
+    Full(1496, 1520),
+    Bytes(b"\x09"),
+    Full(1521, 1526),
+    Bytes(b"\x06"),
+    Full(1527, 1534),
+    Full(839, 1139),
+    Bytes(b"\x05"),
+    Full(1140, 1180),
+    Full(640, 819),
+    Bytes(b"\x06"),
+    Full(820, 831),
+    Bytes(b"\x02"),
+    Full(832, 839),
+    Full(40, 579),
+    Bytes(b"\x08"),
+    Full(580, 614),
+    Bytes(b"\x06"),
+    Full(615, 632),
+    Bytes(b"\x05"),
+    Full(633, 640),
+    Full(2505, 2666),
+    Bytes(b"\x03"),
+    Full(2667, 2682),
+    Full(2682, 3617),
+    End(0),
+];
+
 /// The pieces one after another.
 pub fn joined(alloc: Global, pieces: &[Piece]) -> Result<Vec<u8>, AllocError> {
     let mut file = Vec::new(alloc);

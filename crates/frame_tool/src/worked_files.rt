@@ -182,17 +182,28 @@ pub fn run_with(
     shelf.fail_at(outside.shelf_call)?;
     let mut out = MemSink::new(alloc);
     out.fail_at(outside.sink_call)?;
-    let mut owned = Vec::new(alloc);
-    for word in words {
-        owned.push(String::from_str(alloc, word)?)?;
-    }
-    let outcome = run(alloc, owned.as_slice(), &mut shelf, &mut out);
+    let status = status_over(alloc, words, &mut shelf, &mut out)?;
     Ok(Run {
-        status: outcome.status(),
+        status,
         printed: Vec::from_slice(alloc, out.bytes())?,
         output: match shelf.file(output) {
             Some(bytes) => Some(Vec::from_slice(alloc, bytes)?),
             None => None,
         },
     })
+}
+
+/// The status of a run over this shelf and sink.
+pub fn status_over(
+    alloc: Global,
+    words: &[&str],
+    shelf: &mut MemShelf,
+    out: &mut MemSink,
+) -> Result<u8, AllocError> {
+    let mut owned = Vec::new(alloc);
+    for word in words {
+        owned.push(String::from_str(alloc, word)?)?;
+    }
+    let outcome = run(alloc, owned.as_slice(), shelf, out);
+    Ok(outcome.status())
 }

@@ -1,65 +1,46 @@
 -- What an input leaves at its end: the closing of the first is held, and its entries agree with those that were used.
-use Rattle.std.proofs.Common.{◌≡◌, ℕ, Bool, true, false, cond, find, Option, Some, None, List, [], ◌∷◌, ◌++◌, length}
-use Rattle.std.proofs.Common.{inr, refl, sym, ap, ◌∙◌, subst, arith, true≢false, is_none, IfSome, codes}
+use Rattle.std.proofs.Common.{◌≡◌, ℕ, Bool, true, false, cond, find, Option, Some, None, List, [], ◌∷◌, ◌++◌}
+use Rattle.std.proofs.Common.{Result, Err, refl, sym, ap, ◌∙◌, subst, true≢false, is_none, IfSome}
 use Rattle.std.proofs.lemmas.Bool.{false≢true}
-use Rattle.std.proofs.lemmas.List.{take_all}
 use Rattle.std.proofs.lemmas.List.Elements.{All-from_recursion}
 use Rattle.std.proofs.lemmas.Slice.Eq.{bytes_eq-Decides}
 use Rattle.std.specs.List.{AllByRecursion, AllZip}
-use Rattle.std.specs.Option.{option_map, option_map_or, option_to_list}
+use Rattle.std.specs.Option.{option_map, option_to_list}
 use Rattle.std.specs.Str.{bytes_eq}
 use Rattle.scalar_types.specs.declared.Order.{Order}
 use Rattle.frame_outside.specs.Shelf.{Outside}
 use Rattle.dictionary.specs.declared.entries.Entry.{Entry}
 use Rattle.dictionary.specs.Dictionary.{class_named, IsDictionary}
-use Rattle.file_grammar.specs.Closing.{closes}
-use Rattle.file_grammar.specs.Item.{Item, Before, nothing_yet}
-use Rattle.file_grammar.specs.MayStand.{Begins, IsWellFormed}
+use Rattle.file_grammar.specs.declared.fault.Fault.{Fault}
+use Rattle.file_grammar.specs.Item.{Item, Before}
+use Rattle.file_grammar.specs.MayStand.{IsWellFormed}
 use Rattle.frame_content.specs.Frames.{Frame}
-use Rattle.contents_table.specs.declared.layouts.ChannelLayouts.{ChannelLayouts}
 use Rattle.canonical_file.specs.declared.closing.Closing.{Closing}
 use Rattle.canonical_file.specs.Ranges.{AreBytes}
 use Rattle.canonical_file.specs.Ordered.{IsInOrder}
 use Rattle.canonical_file.specs.Splices.{closing_entries, entries_used}
-use Rattle.canonical_file.specs.Written.{Written, begun, after_frames, canonical_head}
+use Rattle.canonical_file.specs.Written.{Written, begun, after_frames}
 use Rattle.canonical_laws.specs.Content.{closing_by}
 use Rattle.canonical_laws.specs.Writable.{IsWritableTable, IsWritableClosing}
 use Rattle.canonical_laws.specs.Sources.{printed_entries}
 use Rattle.canonical_laws.proofs.AgreeingEntries.{IsIn, AreIn}
 use Rattle.canonical_laws.proofs.FrameEntries.{frames-needed, none-needed}
 use Rattle.canonical_laws.proofs.KeptContents.{orders-writable}
-use Rattle.canonical_laws.proofs.SourceClosings.{HasFileEnd, stand-end, held-named, end-named}
-use Rattle.canonical_laws.proofs.SourceEntries.{AreSources, no-sources}
 use Rattle.canonical_laws.proofs.SourceFrames.{both}
-use Rattle.canonical_laws.proofs.SourceItems.{stand-source}
-use Rattle.canonical_laws.proofs.SourceStored.{IsOpenFrame, no-frame}
 use Rattle.canonical_laws.proofs.Sources.{source_entries, source_frames, source_closing}
 use Rattle.canonical_writer.specs.Parts.{AreConsistent}
 use Rattle.canonical_writer.specs.Writer.{Writer}
-use Rattle.item_reader.specs.Reader.{Reader, HasEnded}
-use Rattle.splicer.specs.Closings.{is_closed}
-use Rattle.splicer.specs.Due.{frames_among}
-use Rattle.splicer.specs.Made.{HasMade}
-use Rattle.splicer.specs.Put.{PutsAll, PutsPart, HasPut}
+use Rattle.item_reader.specs.declared.item.ReadError.{ReadError}
+use Rattle.item_reader.specs.declared.item.ReadError.TheVariants as read
+use Rattle.frame_reader.specs.Gives.{frames_among}
+use Rattle.frame_reader.specs.Given.{Frames, HasGiven, GivesAll}
+use Rattle.frame_reader.proofs.Ended.{all-given}
+use Rattle.splicer.specs.declared.errors.InputError.{InputError}
+use Rattle.splicer.specs.declared.errors.InputError.TheVariants as input
+use Rattle.splicer.specs.Errors.{unread}
+use Rattle.splicer.specs.Put.{HasPut, IsEnded, Puts, PutsAll}
 use Rattle.splicer.proofs.Courses.{passes-stood}
-
--- ---- the end of the file is held
-
--- the dictionary of a well-formed file can close a file
-pub well_formed-closed : (file : List ℕ) (order : Order) (items : List Item) (last : Before) → AreBytes file
-    → IsWellFormed file order items last → is_closed last.dictionary ≡ true
-well_formed-closed file order items last bytes whole =
-    let nothing : IsOpenFrame order nothing_yet.dictionary nothing_yet.frame nothing_yet.load =
-    no-frame order nothing_yet.dictionary no-sources in
-    let sources : AreSources last.dictionary =
-    (stand-source order file nothing_yet last items bytes whole.begins.stand nothing).before.sources in
-    let end : HasFileEnd last.dictionary =
-    stand-end order file nothing_yet last items bytes whole.begins.stand nothing
-    (λ closed. absurd (true≢false (sym closed))) whole.closed in
-    ap (λ o. option_map_or (λ (e : Entry). closes e.elements) o false)
-    (held-named last.dictionary (codes "FrEndOfFile") end.class end.entry sources.sound refl
-    (end-named end.entry.name end.kind) end.held_is)
-    ∙ end.closing
+use Rattle.splicer.proofs.Unread.{puts-part}
 
 -- ---- entries of one dictionary agree
 
@@ -133,29 +114,25 @@ closing-agrees file order items last ordered bytes whole in_order =
 
 -- ---- how an input is left
 
--- the items that were put are all of the file
-whole-put : (file : List ℕ) (r : Reader) (items : List Item) → HasEnded file r → Begins file r.order items r.before
-    → IsWellFormed file r.order items r.before
-whole-put file r items ended begins = record { begins = begins; closed = ended.1.closed; ends = ended.1.ends }
+-- the frames that were put are all of the file
+abbrev whole-put : (file : List ℕ) (frames : List Frame) (r : Frames) → HasGiven file frames r → IsEnded file r
+    → GivesAll file frames r
+whole-put file frames r given ended = record {
+  given = given;
+  whole = record { begins = given.begins; closed = ended.1.whole.closed; ends = ended.1.whole.ends };
+}
 
 -- of a further input: the closing that is held stays
-pub puts-further : (file : List ℕ) (r : Reader) (closing : Option Closing) (stood : List Frame) (old now : Outside)
-    (name : List ℕ) (inputs : ℕ) (layouts : ChannelLayouts) (w : Writer) → HasEnded file r → false ≡ is_none closing
-    → HasPut file r.order r.before closing stood old now name inputs layouts w
-    → PutsAll file closing stood old now name inputs w
-puts-further file r None stood old now name inputs layouts w ended further put = absurd (false≢true further)
-puts-further file r (Some first) stood old now name inputs layouts w ended further put = record {
-  own = closing_by r.before.dictionary;
-  frames = frames_among r.order put.items;
+pub puts-further : (file : List ℕ) (r : Frames) (closing : Option Closing) (stood : List Frame) (old now : Outside)
+    (name : List ℕ) (inputs : ℕ) (w : Writer) → IsEnded file r → false ≡ is_none closing
+    → HasPut file r closing stood old now name inputs w → PutsAll file closing stood old now name inputs w
+puts-further file r None stood old now name inputs w ended further put = absurd (false≢true further)
+puts-further file r (Some first) stood old now name inputs w ended further put = record {
+  own = closing_by r.reader.before.dictionary;
+  frames = put.frames;
   ordered = put.ordered;
   then_stand = put.then_stand;
-  content = record {
-    order = r.order;
-    items = put.items;
-    last = r.before;
-    well_formed = whole-put file r put.items ended put.begins;
-    is = refl;
-  };
+  content = all-given file put.frames r (whole-put file put.frames r put.given ended);
   in_order = put.in_order;
   passes = put.passes;
   written = put.written;
@@ -163,28 +140,20 @@ puts-further file r (Some first) stood old now name inputs layouts w ended furth
 }
 
 -- of the first: its own closing is held then
-pub puts-first : (file : List ℕ) (r : Reader) (closing : Option Closing) (stood : List Frame) (old now : Outside)
-    (name : List ℕ) (inputs : ℕ) (layouts : ChannelLayouts) (w new : Writer) (c : Closing) → AreBytes file
-    → HasEnded file r → true ≡ is_none closing
-    → HasPut file r.order r.before closing stood old now name inputs layouts w
-    → new ≡ record w { closing = Some c } → c ≡ closing_by r.before.dictionary
-    → PutsAll file closing stood old now name inputs new
-puts-first file r (Some first) stood old now name inputs layouts w new c bytes ended none put is closing_is =
+pub puts-first : (file : List ℕ) (r : Frames) (closing : Option Closing) (stood : List Frame) (old now : Outside)
+    (name : List ℕ) (inputs : ℕ) (w new : Writer) (c : Closing) → AreBytes file → IsEnded file r
+    → true ≡ is_none closing → HasPut file r closing stood old now name inputs w → new ≡ record w { closing = Some c }
+    → c ≡ closing_by r.reader.before.dictionary → PutsAll file closing stood old now name inputs new
+puts-first file r (Some first) stood old now name inputs w new c bytes ended none put is closing_is =
     absurd (true≢false none)
-puts-first file r None stood old now name inputs layouts w new c bytes ended none put is closing_is =
+puts-first file r None stood old now name inputs w new c bytes ended none put is closing_is =
     subst (PutsAll file None stood old now name inputs)
     (sym (is ∙ ap (λ (c : Closing). record w { closing = Some c }) closing_is)) (record {
       own = own;
-      frames = frames_among r.order put.items;
+      frames = put.frames;
       ordered = put.ordered;
       then_stand = put.then_stand;
-      content = record {
-        order = r.order;
-        items = put.items;
-        last = r.before;
-        well_formed = whole;
-        is = refl;
-      };
+      content = all-given file put.frames r whole;
       in_order = put.in_order;
       passes = put.passes;
       written = record {
@@ -193,47 +162,40 @@ puts-first file r None stood old now name inputs layouts w new c bytes ended non
         error = put.written.error;
         agree = subst (λ (x : Written). AreConsistent (entries_used x.entries (Some own)))
             (sym (put.written.written ∙ ap (after_frames begun) stand))
-            (closing-agrees file r.order put.items r.before put.ordered bytes whole put.in_order);
+            (closing-agrees file r.reader.order put.given.items r.reader.before put.ordered bytes whole.whole
+            (subst (λ frames. AllZip IsInOrder frames put.ordered) put.given.frames_are put.in_order));
       };
       closing_is = refl;
     })
   where
     own : Closing
-    own = closing_by r.before.dictionary
+    own = closing_by r.reader.before.dictionary
 
-    whole : IsWellFormed file r.order put.items r.before
-    whole = whole-put file r put.items ended put.begins
+    whole : GivesAll file put.frames r
+    whole = whole-put file put.frames r put.given ended
 
     stand : put.then_stand ≡ put.ordered
     stand =
         passes-stood None stood put.ordered put.then_stand put.passes
         ∙ ap (λ (fs : List Frame). fs ++ put.ordered) (put.none_stood refl)
 
--- and where memory failed, no more was written than before
-pub puts-no_more : (file : List ℕ) (order : Order) (before : Before) (closing : Option Closing) (stood : List Frame)
-    (old now : Outside) (name : List ℕ) (inputs : ℕ) (layouts : ChannelLayouts) (w : Writer)
-    → HasPut file order before closing stood old now name inputs layouts w
-    → PutsPart file closing stood old now name inputs w.slot
-puts-no_more file order before closing stood old now name inputs layouts w put = record {
-  ordered = put.ordered;
-  then_stand = put.then_stand;
-  count = length (canonical_head put.then_stand);
-  first = inr (record {
-    order = order;
-    items = put.items;
-    last = before;
-    begins = put.begins;
-    in_order = put.in_order;
-  });
-  passes = put.passes;
-  made = subst (HasMade old now name inputs w.slot)
-      (sym (take_all (length (canonical_head put.then_stand)) (canonical_head put.then_stand) (omega arith)))
-      put.written.made;
-}
+-- ---- where it is not closed
 
--- so the dictionary of an input that has ended cannot be one that closes no file
-pub not-unclosed : (file : List ℕ) (r : Reader) (held : List Entry) → AreBytes file → HasEnded file r
-    → held ≡ r.before.dictionary → is_closed held ≡ false → ⊥
-not-unclosed file r held bytes ended same unclosed =
-    true≢false
-    (sym (well_formed-closed file r.order ended.0 r.before bytes ended.1) ∙ ap is_closed (sym same) ∙ unclosed)
+-- it was closed, so memory failed
+pub puts-no_closing : (file : List ℕ) (r : Frames) (closing : Option Closing) (stood : List Frame) (old now : Outside)
+    (name : List ℕ) (inputs : ℕ) (w : Writer) (error : ReadError) → ((fault : Fault) → error ≡ read.Fault fault → ⊥)
+    → (error ≡ read.Device → ⊥) → HasPut file r closing stood old now name inputs w
+    → Puts file closing stood old now name inputs w (Err (unread error))
+puts-no_closing file r closing stood old now name inputs w (read.Fault fault) no_fault no_device put =
+    absurd (no_fault fault refl)
+puts-no_closing file r closing stood old now name inputs w read.Device no_fault no_device put =
+    absurd (no_device refl)
+puts-no_closing file r closing stood old now name inputs w read.NoMemory no_fault no_device put =
+    puts-part file r closing stood old now name inputs w put
+
+-- a fault that is given on is one that the reader found
+pub unread-fault : (error : ReadError) (fault : Fault)
+    → ◌≡◌ {A = Result Unit InputError} (Err (unread error)) (Err (input.Fault fault)) → error ≡ read.Fault fault
+unread-fault (read.Fault other) fault is = cc
+unread-fault read.Device fault is = absurd cc
+unread-fault read.NoMemory fault is = absurd cc

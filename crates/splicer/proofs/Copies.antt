@@ -13,7 +13,8 @@ use Rattle.canonical_file.proofs.Sizes.{head-size}
 use Rattle.canonical_laws.specs.Content.{HasContent}
 use Rattle.canonical_writer.specs.declared.errors.WriteError.TheVariants as error
 use Rattle.canonical_writer.specs.Writer.{size_with}
-use Rattle.splicer.specs.Due.{Ending, Closes, Breaks, Gives, Course, Passes, Refuses, course, Writes}
+use Rattle.frame_reader.specs.Gives.{Ending, Closes, Breaks, Gives}
+use Rattle.splicer.specs.Due.{Course, Passes, Refuses, course, Writes}
 use Rattle.splicer.specs.Due.{closed_due, IsDueOfHeld, IsDueAfter, IsDue, IsDueAtEnd, Next}
 use Rattle.canonical_laws.proofs.KeptContents.{kept_contents}
 use Rattle.canonical_laws.proofs.TellingApart.{tells}

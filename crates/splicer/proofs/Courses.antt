@@ -1,6 +1,7 @@
 -- What comes of frames one after another.
-use Rattle.std.proofs.Common.{◌≡◌, List, [], ◌∷◌, ◌++◌, Option, Result, Ok, Err, refl, sym, ap, ◌∙◌}
-use Rattle.std.proofs.lemmas.List.{append_assoc, append-nil}
+use Rattle.std.proofs.Common.{◌≡◌, ◌+◌, ◌<◌, ◌≤◌, List, [], ◌∷◌, ◌++◌, length, Option, Result, Ok, Err, refl, sym, ap}
+use Rattle.std.proofs.Common.{◌∙◌, arith}
+use Rattle.std.proofs.lemmas.List.{append_assoc, append-nil, length-append}
 use Rattle.frame_content.specs.Frames.{Frame}
 use Rattle.canonical_file.specs.declared.closing.Closing.{Closing}
 use Rattle.canonical_file.specs.Written.{begun, after_frames}
@@ -69,6 +70,36 @@ passes-stood closing stood (f ∷ fs) then_stand passes =
         → course_by due stood (course closing (stood ++ f ∷ []) fs) ≡ Passes then_stand → then_stand ≡ stood ++ f ∷ fs
     by (Err error) later refused = absurd cc
     by (Ok x) later taken = later taken ∙ append_assoc stood (f ∷ []) fs
+
+-- no fewer stand than before
+pub course-grows : (closing : Option Closing) (stood fs : List Frame) (c : Course) → course closing stood fs ≡ c
+    → length stood ≤ length (stood_of c)
+course-grows closing stood fs c is =
+    let longer = course-longer closing stood fs in
+    let same : length (stood_of c) ≡ length stood + length longer.0 =
+    ap (λ (c : Course). length (stood_of c)) (sym is) ∙ ap (λ (fs : List Frame). length fs) longer.1
+    ∙ length-append stood longer.0 in
+    omega (arith, same)
+
+-- where one is refused, fewer stand than come
+pub refused-short : (closing : Option Closing) (stood fs then_stand : List Frame) (error : WriteError)
+    → course closing stood fs ≡ Refuses error then_stand → length then_stand < length stood + length fs
+refused-short closing stood [] then_stand error refuses = absurd cc
+refused-short closing stood (f ∷ fs) then_stand error refuses =
+    by (frame_due closing (after_frames begun stood) f) (refused-short closing (stood ++ f ∷ []) fs then_stand error)
+    refuses
+  where
+    by : (due : Result Unit WriteError)
+        → (course closing (stood ++ f ∷ []) fs ≡ Refuses error then_stand
+        → length then_stand < length (stood ++ f ∷ []) + length fs)
+        → course_by due stood (course closing (stood ++ f ∷ []) fs) ≡ Refuses error then_stand
+        → length then_stand < length stood + length (f ∷ fs)
+    by (Err other) later is =
+        let same : length stood ≡ length then_stand = ap (λ (c : Course). length (stood_of c)) is in
+        omega (arith, same)
+    by (Ok x) later is =
+        let less = later is in
+        omega (arith, less, length-append stood (f ∷ []))
 
 -- after frames that pass, the course goes on from those that stand then
 pub course-after : (closing : Option Closing) (stood fs gs then_stand : List Frame)

@@ -14,13 +14,14 @@ use Rattle.canonical_laws.specs.Content.{HasContent}
 use Rattle.canonical_writer.specs.declared.errors.WriteError.{WriteError}
 use Rattle.canonical_writer.specs.declared.writer.Summary.{Summary}
 use Rattle.canonical_writer.specs.Writer.{closing_due}
+use Rattle.frame_reader.specs.Gives.{Ending, Closes, Breaks, Gives}
+use Rattle.frame_reader.specs.Given.{AreFirst}
 use Rattle.splicer.specs.declared.errors.SpliceError.TheVariants as splice
 use Rattle.splicer.specs.Errors.{unwritten}
-use Rattle.splicer.specs.Due.{Ending, Closes, Breaks, Gives, Course, Passes, Refuses, course, Due, Writes, Stops, Next}
+use Rattle.splicer.specs.Due.{Course, Passes, Refuses, course, Due, Writes, Stops, Next}
 use Rattle.splicer.specs.Due.{held_then, closed_due, IsDueAtEnd, IsDueAfter, IsDueOf, IsDueOfHeld, IsDueFrom}
-use Rattle.splicer.specs.Put.{AreFirst}
 use Rattle.splicer.proofs.Courses.{stood_of, course-longer, course-refused, course-after}
-use Rattle.splicer.proofs.FirstItems.{first-given, given-once, each-gives}
+use Rattle.frame_reader.proofs.FirstItems.{first-given, given-once, each-gives}
 
 -- the frames that are due to be written
 abbrev pub frames_of : Due → List Frame
@@ -56,7 +57,8 @@ due-refused file closing stood ordered then_stand error number next due first re
 
 -- the input has a fault
 pub due-faulty : (file : List ℕ) (closing : Option Closing) (stood frames ordered then_stand : List Frame)
-    (fault : Fault) (number : ℕ) (next : Next) (due : Due) → Gives file frames (Breaks fault) → AllZip IsInOrder frames ordered
+    (fault : Fault) (number : ℕ) (next : Next) (due : Due) → Gives file frames (Breaks fault)
+    → AllZip IsInOrder frames ordered
     → course closing stood ordered ≡ Passes then_stand → IsDueOf file closing stood number next due
     → due ≡ Stops (splice.Fault number fault) then_stand
 due-faulty file closing stood frames ordered then_stand fault number next due gives in_order passes is =

@@ -11,7 +11,7 @@ use Rattle.dictionary.specs.declared.entries.Entry.{Entry}
 use Rattle.dictionary.specs.Dictionary.{class_named}
 use Rattle.frame_head.specs.Header.{header_bytes}
 use Rattle.frame_outside.specs.Shelf.{Outside, Files, Reading, Told, IsSource, IsTarget, Opens, reading_at}
-use Rattle.frame_outside.specs.Shelf.{beginning_of, Slot, Source, Target, beginning, writing_begun}
+use Rattle.frame_outside.specs.Shelf.{beginning_of, Slot, Source, Target, WritesPart, beginning, writing_begun}
 use Rattle.frame_outside.proofs.Slots.{IsSource-opens, IsSource-made, IsSource-write, IsTarget-makes, IsTarget-write}
 use Rattle.frame_outside.proofs.Slots.{IsTarget-more, reading_at-given, reading_at-made, reading_at-write}
 use Rattle.canonical_file.specs.declared.closing.Closing.{Closing}
@@ -22,7 +22,9 @@ use Rattle.canonical_writer.specs.Writer.{Writer, fresh, Stays, BeginsFile, Begi
 use Rattle.splicer.specs.declared.errors.SpliceError.{SpliceError}
 use Rattle.splicer.specs.Due.{Due, IsDueFrom}
 use Rattle.splicer.specs.Made.{HasMade, WritesOneFile}
+use Rattle.splicer.specs.Drawn.{HasDrawn}
 use Rattle.splicer.specs.Spliced.{TellsFiles, HasOpened, Ends}
+use Rattle.splicer.proofs.DrawnInputs.{drawn-first}
 use Rattle.splicer.proofs.Dues.{due-longer}
 use Rattle.splicer.proofs.Making.{made-begun, begun-in_part, one-made, one-unmade}
 use Rattle.splicer.proofs.Splicing.{HasFailed, ends-failed, ends-part, none-missed}
@@ -114,6 +116,12 @@ nothing-used = All-nil (λ (e : Entry). class_named [] e.name ≡ Some e.class)
 head-of_none : header_bytes ≡ canonical_head []
 head-of_none = sym (append-nil header_bytes)
 
+-- nothing was drawn of it
+begun-taken : (old opened new : Outside) (name to : List ℕ) (slot target : ℕ) → Opens old opened name slot
+    → BeginsFile opened new to target → new.taken ≤ old.taken
+begun-taken old opened new name to slot target opens begins =
+    omega (arith, opens.taken, begins.makes.taken, begins.writes.taken)
+
 -- the first input was opened, and the file begun
 pub opened-first : (files : Files) (names : List (List ℕ)) (old opened new : Outside) (to name : List ℕ)
     (others : List (List ℕ)) (slot : ℕ) (w : Writer) → TellsFiles files names old to → names ≡ name ∷ others
@@ -158,6 +166,9 @@ opened-first files names old opened new to name others slot w tells names_are fo
               subst P (sym (ap (λ (w : Writer). w.closing) is)) tt;
           due = λ due all. let P : Option Closing → Type 0 = λ closing. IsDueFrom files closing [] 0 names due in
               subst P (sym (ap (λ (w : Writer). w.closing) is)) all;
+          draws = let P : Option Closing → Type 0 = λ closing. HasDrawn files names old new closing [] names in
+              subst P (sym (ap (λ (w : Writer). w.closing) is))
+              (drawn-first files names old new (begun-taken old opened new name to slot w.slot opens begins));
         }
 
 -- the first input was opened, and the file not begun
@@ -174,6 +185,16 @@ ends-unbegun files names old opened new to name slot due error told failed opens
     let P : List ℕ → Type 0 = λ bytes. HasMade old new to 1 begun.0 (take begun.1 bytes) in
     ends-part files old new to 1 begun.0 begun.1 [] longer.0 due error told failed longer.1
     (subst P head-of_none begun.3)
+
+-- nothing was drawn of the input
+pub unbegun-taken : (old opened new : Outside) (name to : List ℕ) (slot : ℕ) → Opens old opened name slot
+    → Stays opened new ⊎ BeginsInPart opened new to → new.taken ≤ old.taken
+unbegun-taken old opened new name to slot opens (inl stays) = omega (arith, opens.taken, stays.taken)
+unbegun-taken old opened new name to slot opens (inr part) = by part.part
+  where
+    by : Stays part.middle new ⊎ WritesPart part.middle new part.slot header_bytes → new.taken ≤ old.taken
+    by (inl stays) = omega (arith, opens.taken, part.makes.taken, stays.taken)
+    by (inr writes) = omega (arith, opens.taken, part.makes.taken, writes.writes.taken)
 
 pub one-unbegun : (old opened new : Outside) (to name : List ℕ) (slot all : ℕ) → Opens old opened name slot
     → Stays opened new ⊎ BeginsInPart opened new to → 1 ≤ all → WritesOneFile old new to all

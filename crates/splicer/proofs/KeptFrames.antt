@@ -25,8 +25,9 @@ use Rattle.canonical_laws.proofs.OpenHeads.{no_part_of_a_head}
 use Rattle.canonical_laws.proofs.Sources.{source_entries, source_frames}
 use Rattle.canonical_laws.proofs.SplicedContents.{first_spliced, more_spliced}
 use Rattle.canonical_laws.proofs.SplicedFrames.{no_part_of_a_spliced_head}
-use Rattle.splicer.specs.Due.{Ending, Closes, Breaks, Gives, held_then}
-use Rattle.splicer.specs.Put.{AreFirst}
+use Rattle.frame_reader.specs.Gives.{Ending, Closes, Breaks, Gives}
+use Rattle.frame_reader.specs.Given.{AreFirst}
+use Rattle.splicer.specs.Due.{held_then}
 use Rattle.splicer.proofs.DueParts.{frames-counted}
 use Rattle.splicer.proofs.FirstPut.{none-held}
 use Rattle.splicer.proofs.OwnCopies.{all-first}

@@ -1,13 +1,12 @@
 pub mod Courses
-pub mod FirstItems
 pub mod Dues
+pub mod LaterLooks
+pub mod Drawing
+pub mod DrawnInputs
 pub mod Making
-pub mod ItemsCome
-pub mod NamedEntries
 pub mod FramesMore
 pub mod OnlyWritten
 pub mod Unread
-pub mod PutItems
 pub mod PutsOn
 pub mod FirstPut
 pub mod Closed
@@ -22,3 +21,5 @@ pub mod OwnCopies
 pub mod TakenFrames
 pub mod KeptFrames
 pub mod WholeOrRefused
+pub mod PutFrames
+pub mod ReadsOn

@@ -24,6 +24,7 @@ only-none o = record {
   targets = λ slot target. target;
   files = λ slot. refl;
   faults = omega arith;
+  taken = refl;
 }
 
 only-stays : (old new : Outside) → Stays old new → OnlyWrites old new
@@ -33,6 +34,7 @@ only-stays old new stays = record {
   files = λ slot.
       ap (λ slots. option_map (λ (reading : Reading). reading.opened) (reading_at slots slot)) stays.slots;
   faults = stays.faults;
+  taken = omega (arith, stays.taken);
 }
 
 only-writes : (old new : Outside) (slot : ℕ) (bytes : List ℕ) → Writes old new slot bytes → OnlyWrites old new
@@ -44,6 +46,7 @@ only-writes old new slot bytes writes = record {
       ap (λ slots. option_map (λ (reading : Reading). reading.opened) (reading_at slots other)) writes.slots
       ∙ ap (option_map (λ (reading : Reading). reading.opened)) (reading_at-write old.slots slot bytes other);
   faults = writes.faults;
+  taken = writes.taken;
 }
 
 -- whatever a writer answered

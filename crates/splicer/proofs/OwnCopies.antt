@@ -15,9 +15,10 @@ use Rattle.canonical_file.specs.Contents.{Content}
 use Rattle.canonical_laws.specs.Content.{HasContent}
 use Rattle.canonical_writer.specs.declared.errors.WriteError.TheVariants as error
 use Rattle.canonical_writer.specs.Writer.{size_with, closing_due}
-use Rattle.splicer.specs.Due.{Breaks, Gives, Passes, course, Due, Writes, closed_due, Next, IsDueAtEnd}
+use Rattle.frame_reader.specs.Gives.{Breaks, Gives}
+use Rattle.frame_reader.specs.Given.{AreFirst}
+use Rattle.splicer.specs.Due.{Passes, course, Due, Writes, closed_due, Next, IsDueAtEnd}
 use Rattle.splicer.specs.Due.{IsDueOfHeld, output_of, is_whole}
-use Rattle.splicer.specs.Put.{AreFirst}
 use Rattle.splicer.specs.Laws.{CopiesAreDone, CopiesNameFaults}
 use Rattle.splicer.proofs.Copies.{file-size}
 use Rattle.splicer.proofs.Dues.{due-next, due-faulty}

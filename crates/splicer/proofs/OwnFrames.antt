@@ -36,8 +36,9 @@ use Rattle.canonical_laws.proofs.WrittenRecords.{Agrees}
 use Rattle.canonical_writer.specs.declared.errors.WriteError.{WriteError}
 use Rattle.canonical_writer.specs.declared.errors.WriteError.TheVariants as error
 use Rattle.canonical_writer.specs.Writer.{clash_or_limit, frame_due}
-use Rattle.splicer.specs.Due.{Passes, course_by, course, frames_among}
-use Rattle.splicer.specs.Put.{AreFirst}
+use Rattle.frame_reader.specs.Gives.{frames_among}
+use Rattle.frame_reader.specs.Given.{AreFirst}
+use Rattle.splicer.specs.Due.{Passes, course_by, course}
 
 -- ---- entries of one dictionary
 

@@ -183,6 +183,16 @@ spliced-ends files names old now new to w result bytes spliced answer puts bytes
     result spliced.tells.told spliced.written.made (subst C spliced.written.written own)
     (subst D (same ∙ ap (λ w. closing_part w closing) spliced.written.written) puts))
 
+-- nothing more is drawn then
+pub puts-taken : (now new : Outside) (slot : ℕ) (bytes : List ℕ) (result : Result Summary WriteError)
+    → WriterPuts now new slot bytes result → new.taken ≤ now.taken
+puts-taken now new slot bytes (Ok summary) puts = omega (arith, puts.taken)
+puts-taken now new slot bytes (Err write.Device) puts = omega (arith, puts.writes.taken)
+puts-taken now new slot bytes (Err write.NoMemory) puts = omega (arith, puts.taken)
+puts-taken now new slot bytes (Err write.FramesLimit) puts = omega (arith, puts.taken)
+puts-taken now new slot bytes (Err (write.Clash class)) puts = omega (arith, puts.taken)
+puts-taken now new slot bytes (Err write.OutputLimit) puts = omega (arith, puts.taken)
+
 -- the shelf that is left then
 device-by : (result : Result Summary WriteError) → spliced_by result ≡ Err splice.Device → result ≡ Err write.Device
 device-by (Ok summary) is = cc

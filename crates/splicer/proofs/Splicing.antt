@@ -35,10 +35,12 @@ use Rattle.splicer.specs.Due.{has_failed, is_whole, output_of}
 use Rattle.splicer.specs.Left.{LeavesFile, LeavesPart}
 use Rattle.splicer.specs.Made.{HasMade}
 use Rattle.splicer.specs.Put.{Comes, Puts, PutsAll, PutsPart, PutsUntilRefusal}
+use Rattle.splicer.specs.Drawn.{DrawsInAll, DrawsInput, HasDrawn}
 use Rattle.splicer.specs.Spliced.{TellsFiles, HasOpened, HasSpliced, Ends}
 use Rattle.splicer.proofs.Dues.{frames_of, due-refused, due-faulty, due-next, due-longer, due-begun}
 use Rattle.splicer.proofs.Making.{made-opens, opened-held}
 use Rattle.splicer.proofs.DueParts.{leaves-part}
+use Rattle.splicer.proofs.DrawnInputs.{drawn-still, drawn-input, drawn-ends, drawn-all}
 
 -- ---- a closing that was read can be written
 
@@ -248,6 +250,12 @@ opened-next files names old middle new to name others number slot w result splic
               let P : Option Closing → Type 0 = λ closing.
               IsDueFrom files closing spliced.stood number (drop number names) due in
               subst P (sym spliced.closing_is) (spliced.due due is);
+          draws =
+              let P : Option Closing → Type 0 = λ closing.
+              HasDrawn files names old new closing spliced.stood (drop number names) in
+              let same : new.taken ≡ middle.taken = opens.taken in
+              subst P (sym spliced.closing_is) (drawn-still files names old middle new (Some spliced.closing)
+              spliced.stood (drop number names) (omega (arith, same)) spliced.draws);
         }
 
 -- it comes after what stands
@@ -282,12 +290,21 @@ opened-due files names old now to number slot w opened due is =
     IsDueOfHeld held w.closing opened.stood number (DueNext files opened.others number) due in
     subst Q opened.held (subst P opened.names_are (opened.due due is))
 
+-- what was drawn before it
+opened-draws : (files : Files) (names : List (List ℕ)) (old now : Outside) (to : List ℕ) (number slot : ℕ) (w : Writer)
+    (opened : HasOpened files names old now to number slot w)
+    → HasDrawn files names old now w.closing opened.stood (opened.name ∷ opened.others)
+opened-draws files names old now to number slot w opened =
+    let P : List (List ℕ) → Type 0 = λ ns. HasDrawn files names old now w.closing opened.stood ns in
+    subst P opened.names_are opened.draws
+
 -- all of it is written
 pub opened-written : (files : Files) (names : List (List ℕ)) (old now new : Outside) (to : List ℕ) (number slot : ℕ)
     (w after : Writer) (opened : HasOpened files names old now to number slot w)
-    → PutsAll opened.input w.closing opened.stood old new to (number + 1) after
+    → PutsAll opened.input w.closing opened.stood old new to (number + 1) after → (result : Result Unit InputError)
+    → DrawsInput opened.input w.closing opened.stood now new result
     → HasSpliced files names old new to (number + 1) after
-opened-written files names old now new to number slot w after opened puts =
+opened-written files names old now new to number slot w after opened puts result drawn =
     let file : List ℕ = opened.input in
     let own_short : IsShortClosing puts.own = content-short file puts.own puts.frames
     (opened.tells.bytes opened.name file opened.held) puts.content in
@@ -309,7 +326,34 @@ opened-written files names old now new to number slot w after opened puts =
           (due-next file w.closing opened.stood puts.frames puts.ordered puts.then_stand puts.own number
           (DueNext files opened.others number) due puts.content puts.in_order puts.passes
           (opened-due files names old now to number slot w opened due is)));
+      draws =
+          let P : Option Closing → Type 0 = λ c.
+          HasDrawn files names old new c puts.then_stand opened.others in
+          let Q : List (List ℕ) → Type 0 = λ ns.
+          HasDrawn files names old new (Some closing.0) puts.then_stand ns in
+          subst Q (names-after names opened.name opened.others number opened.names_are)
+          (subst P closing.1
+          (drawn-input files names old now new w.closing opened.stood puts.frames puts.ordered puts.then_stand puts.own
+          opened.name file opened.others drawn.drawn opened.held
+          (opened-draws files names old now to number slot w opened) puts.content puts.in_order puts.passes drawn.took
+          drawn.within));
     }
+
+-- it ends the splice, and of those after it nothing is drawn
+pub opened-drawn_ends : (files : Files) (names : List (List ℕ)) (old now new : Outside) (to : List ℕ)
+    (number slot : ℕ) (w after : Writer) (error : InputError)
+    (opened : HasOpened files names old now to number slot w)
+    → Puts opened.input w.closing opened.stood old new to (number + 1) after (Err error)
+    → DrawsInput opened.input w.closing opened.stood now new (Err error) → DrawsInAll files names old new
+opened-drawn_ends files names old now new to number slot w after error opened puts drawn =
+    drawn-ends files names old now new to (number + 1) after w.closing opened.stood opened.name opened.input
+    opened.others error opened.held (opened-draws files names old now to number slot w opened) puts drawn
+
+-- after inputs that are written, none is drawn further
+pub spliced-drawn : (files : Files) (names : List (List ℕ)) (old now new : Outside) (to : List ℕ) (number : ℕ)
+    (w : Writer) → HasSpliced files names old now to number w → new.taken ≤ now.taken → DrawsInAll files names old new
+spliced-drawn files names old now new to number w spliced same =
+    drawn-all files names old now new (Some spliced.closing) spliced.stood (drop number names) same spliced.draws
 
 -- it is not written to its end
 pub opened-ends : (files : Files) (names : List (List ℕ)) (old now new : Outside) (to : List ℕ) (number slot : ℕ)

@@ -17,9 +17,11 @@ use Rattle.canonical_laws.specs.Laws.{ReadsBack}
 use Rattle.canonical_laws.proofs.SplicedFrames.{no_part_of_a_spliced_file, spliced_back}
 use Rattle.canonical_writer.specs.declared.errors.WriteError.TheVariants as error
 use Rattle.canonical_writer.specs.Writer.{size_with}
+use Rattle.frame_reader.specs.Gives.{Ending, Closes, Breaks, Gives}
 use Rattle.splicer.specs.Left.{IsPart}
-use Rattle.splicer.specs.Due.{Ending, Closes, Breaks, Gives, Course, Passes, Refuses, course, Due, Writes, Stops, Next}
-use Rattle.splicer.specs.Due.{HoldBytes, closed_due, IsDueAtEnd, IsDueAfter, IsDueOfHeld, IsDueFrom, IsDue}
+use Rattle.splicer.specs.Due.{Course, Passes, Refuses, course, Due, Writes, Stops, Next}
+use Rattle.frame_reader.specs.Gives.{HoldBytes}
+use Rattle.splicer.specs.Due.{closed_due, IsDueAtEnd, IsDueAfter, IsDueOfHeld, IsDueFrom, IsDue}
 use Rattle.splicer.specs.Due.{output_of, is_whole}
 use Rattle.splicer.specs.Laws.{NoPartIsWhole, WholeSplicesAreRead}
 use Rattle.splicer.proofs.Copies.{file-size}

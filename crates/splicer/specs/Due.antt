@@ -1,21 +1,14 @@
 -- What is due of a splice: the frames of all inputs in order, each frame in its order, one input after another, up to
 -- what comes first of a fault, a frame that is refused, and a file that is not held.
-use Rattle.std.specs.Prelude.{◌≡◌, ℕ, ◌+◌, ◌⊎◌, Bool, true, false, List, [], ◌∷◌, ◌++◌, length, map, Option, Some, None}
+use Rattle.std.specs.Prelude.{◌≡◌, ℕ, ◌+◌, ◌⊎◌, Bool, true, false, List, [], ◌∷◌, ◌++◌, length, Option, Some, None}
 use Rattle.std.specs.Prelude.{Result, Ok, Err}
 use Rattle.std.specs.List.{AllZip}
-use Rattle.scalar_types.specs.declared.Order.{Order}
 use Rattle.frame_outside.specs.Shelf.{Files}
-use Rattle.file_grammar.specs.declared.fault.Fault.{Fault}
-use Rattle.file_grammar.specs.Item.{Item}
-use Rattle.file_grammar.specs.Fault.{IsHeaderFault, IsItemFault}
 use Rattle.frame_content.specs.Frames.{Frame}
-use Rattle.file_content.specs.Stored.{frames_in}
-use Rattle.file_content.specs.Contents.{content_frame}
 use Rattle.canonical_file.specs.declared.closing.Closing.{Closing}
-use Rattle.canonical_file.specs.Ranges.{AreBytes}
 use Rattle.canonical_file.specs.Ordered.{IsInOrder}
 use Rattle.canonical_file.specs.Written.{begun, after_frames, canonical_head, canonical_file}
-use Rattle.canonical_laws.specs.Content.{HasContent}
+use Rattle.frame_reader.specs.Gives.{Ending, Closes, Breaks, Gives, HoldBytes}
 use Rattle.canonical_writer.specs.declared.errors.WriteError.{WriteError}
 use Rattle.canonical_writer.specs.declared.writer.Summary.{Summary}
 use Rattle.canonical_writer.specs.Writer.{frame_due, closing_due}
@@ -23,27 +16,6 @@ use Rattle.splicer.specs.declared.errors.SpliceError.{SpliceError}
 use Rattle.splicer.specs.declared.errors.SpliceError.TheVariants as splice
 use Rattle.splicer.specs.Errors.{unwritten}
 use Rattle.splicer.specs.Left.{LeavesFile}
-
--- ---- what an input gives
-
--- how a file ends: it is well-formed and has a closing, or it has a first fault
-pub data Ending : Type 0 where
-  Closes : (closing : Closing) → Ending
-  Breaks : (fault : Fault) → Ending
-
--- the frames that end among the items of a file
-abbrev pub frames_among : Order → List Item → List Frame
-frames_among order items = map (content_frame order) (frames_in order items)
-
--- the frames that end before a fault
-pub record GivesUntil (file : List ℕ) (frames : List Frame) (fault : Fault) : Type 0 where
-  pub is_fault : IsItemFault file fault
-  pub frames_are : frames ≡ frames_among is_fault.order is_fault.items
-
--- The file gives these frames, and ends so.
-abbrev pub Gives : List ℕ → List Frame → Ending → Type 0
-Gives file frames (Closes closing) = HasContent file (record { closing = closing; frames = frames })
-Gives file frames (Breaks fault) = ((frames ≡ []) × IsHeaderFault file fault) ⊎ GivesUntil file frames fault
 
 -- ---- frames after those that stand
 
@@ -114,10 +86,6 @@ IsDueFrom files closing stood number [] due = IsDueAtEnd closing stood due
 IsDueFrom files closing stood number (name ∷ names) due =
     IsDueOfHeld (files name) closing stood number
     (λ closing stood due. IsDueFrom files closing stood (number + 1) names due) due
-
--- each file is a list of bytes
-abbrev pub HoldBytes : Files → Type 0
-HoldBytes files = (name file : List ℕ) → files name ≡ Some file → AreBytes file
 
 -- What is due of a splice of the files of these names. The files hold bytes.
 pub record IsDue (files : Files) (names : List (List ℕ)) (due : Due) : Type 0 where

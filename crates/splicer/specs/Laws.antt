@@ -15,7 +15,8 @@ use Rattle.canonical_laws.specs.Content.{HasContent}
 use Rattle.canonical_laws.specs.Laws.{ReadsBack}
 use Rattle.splicer.specs.declared.errors.SpliceError.TheVariants as splice
 use Rattle.splicer.specs.Left.{IsPart}
-use Rattle.splicer.specs.Due.{Breaks, Gives, Due, Writes, Stops, HoldBytes, IsDue, output_of, is_whole}
+use Rattle.frame_reader.specs.Gives.{Breaks, Gives, HoldBytes}
+use Rattle.splicer.specs.Due.{Due, Writes, Stops, IsDue, output_of, is_whole}
 
 -- Of files that hold bytes a splice is due.
 abbrev pub EachSpliceHasADue : Type 0

@@ -1,12 +1,8 @@
 -- What is written of an input, frame after frame.
 use Rattle.std.specs.Prelude.{◌≡◌, ℕ, ◌≤◌, ◌⊎◌, Bool, List, [], take, Option, None, is_none, Result, Ok, Err}
 use Rattle.std.specs.List.{AllZip}
-use Rattle.scalar_types.specs.declared.Order.{Order}
 use Rattle.frame_outside.specs.Shelf.{Outside, IsTarget}
-use Rattle.dictionary.specs.Dictionary.{IsDictionary}
 use Rattle.file_grammar.specs.declared.fault.Fault.{Fault}
-use Rattle.file_grammar.specs.Item.{Item, Before}
-use Rattle.file_grammar.specs.MayStand.{Begins}
 use Rattle.frame_content.specs.Frames.{Frame}
 use Rattle.canonical_file.specs.declared.closing.Closing.{Closing}
 use Rattle.canonical_file.specs.Ranges.{AreBytes}
@@ -14,16 +10,16 @@ use Rattle.canonical_file.specs.Ordered.{IsInOrder}
 use Rattle.canonical_file.specs.Splices.{entries_used}
 use Rattle.canonical_file.specs.Written.{begun, after_frames, canonical_head}
 use Rattle.canonical_laws.specs.Content.{HasContent}
-use Rattle.contents_table.specs.declared.layouts.ChannelLayouts.{ChannelLayouts}
-use Rattle.contents_table.specs.Layouts.{layouts_of}
 use Rattle.canonical_writer.specs.declared.errors.WriteError.{WriteError}
 use Rattle.canonical_writer.specs.declared.errors.WriteError.TheVariants as write
 use Rattle.canonical_writer.specs.Parts.{AreConsistent, AreMet}
 use Rattle.canonical_writer.specs.Writer.{Writer}
 use Rattle.item_reader.specs.Reader.{Reader, Reads, file_of}
+use Rattle.frame_reader.specs.Gives.{Breaks, Gives}
+use Rattle.frame_reader.specs.Given.{Frames, HasGiven, GivesFrame, GivesAll, AreFirst}
 use Rattle.splicer.specs.declared.errors.InputError.{InputError}
 use Rattle.splicer.specs.declared.errors.InputError.TheVariants as input
-use Rattle.splicer.specs.Due.{Passes, Refuses, course, frames_among, Gives, Breaks, held_then}
+use Rattle.splicer.specs.Due.{Passes, Refuses, course, held_then}
 use Rattle.splicer.specs.Made.{HasMade}
 
 -- A writer has written these frames, and no others, to the file of a name.
@@ -32,14 +28,6 @@ pub record HasWritten (old new : Outside) (name : List ℕ) (inputs : ℕ) (fram
   pub written : w.written ≡ after_frames begun frames
   pub error : w.error ≡ None
   pub agree : AreConsistent (entries_used w.written.entries w.closing)
-
--- The first frames of a file, each in its order.
-pub record AreFirst (file : List ℕ) (ordered : List Frame) : Type 0 where
-  pub order : Order
-  pub items : List Item
-  pub last : Before
-  pub begins : Begins file order items last
-  pub in_order : AllZip IsInOrder (frames_among order items) ordered
 
 -- ---- how an input is left
 
@@ -101,21 +89,37 @@ Puts file closing stood old new name inputs w (Err (input.Write error)) =
 
 -- ---- on the way
 
--- The items of a file before a place: their frames are written after those that stood, and the classes met of it are
--- used as this dictionary has them.
-pub record HasPut (file : List ℕ) (order : Order) (before : Before) (closing : Option Closing) (stood : List Frame)
-    (old new : Outside) (name : List ℕ) (inputs : ℕ) (layouts : ChannelLayouts) (w : Writer) : Type 0 where
-  pub items : List Item
+-- the reader has given all frames of a file that is well-formed
+abbrev pub IsEnded : List ℕ → Frames → Type 0
+IsEnded file r = (frames : List Frame) × GivesAll file frames r
+
+-- The frames that a reader has given of a file are written after those that stood, and the classes met of it are used
+-- as its dictionary has them.
+pub record HasPut (file : List ℕ) (r : Frames) (closing : Option Closing) (stood : List Frame) (old new : Outside)
+    (name : List ℕ) (inputs : ℕ) (w : Writer) : Type 0 where
+  pub frames : List Frame
   pub ordered : List Frame
   pub then_stand : List Frame
-  pub begins : Begins file order items before
-  pub in_order : AllZip IsInOrder (frames_among order items) ordered
+  pub given : HasGiven file frames r
+  pub in_order : AllZip IsInOrder frames ordered
   pub passes : course closing stood ordered ≡ Passes then_stand
   pub written : HasWritten old new name inputs then_stand w
   pub closing_is : w.closing ≡ closing
-  pub sound : IsDictionary before.dictionary
-  pub layouts_are : layouts ≡ layouts_of before.dictionary
-  pub met : AreMet w.met w.written.entries before.dictionary
+  pub met : AreMet w.met w.written.entries r.reader.before.dictionary
+  pub none_stood : closing ≡ None → stood ≡ []
+
+-- The same before a frame that the reader has given after them.
+pub record PutsNext (file : List ℕ) (frame : Frame) (r : Frames) (closing : Option Closing) (stood : List Frame)
+    (old new : Outside) (name : List ℕ) (inputs : ℕ) (w : Writer) : Type 0 where
+  pub frames : List Frame
+  pub ordered : List Frame
+  pub then_stand : List Frame
+  pub gives : GivesFrame file frames frame r
+  pub in_order : AllZip IsInOrder frames ordered
+  pub passes : course closing stood ordered ≡ Passes then_stand
+  pub written : HasWritten old new name inputs then_stand w
+  pub closing_is : w.closing ≡ closing
+  pub met : AreMet w.met w.written.entries r.reader.before.dictionary
   pub none_stood : closing ≡ None → stood ≡ []
 
 -- An input of these bytes comes after frames that are written; it is the first where no closing is held.
@@ -126,17 +130,25 @@ pub record Comes (file : List ℕ) (stood : List Frame) (old new : Outside) (nam
   pub first : is_first ≡ is_none w.closing
   pub none_stood : w.closing ≡ None → stood ≡ []
 
--- what is written then, by the answer to an item
-abbrev pub PutsItem : List ℕ → Order → Before → Option Closing → List Frame → Outside → Outside → List ℕ → ℕ
-    → ChannelLayouts → Writer → Result Unit WriteError → Type 0
-PutsItem file order before closing stood old new name inputs layouts w (Ok x) =
-    HasPut file order before closing stood old new name inputs layouts w
-PutsItem file order before closing stood old new name inputs layouts w (Err error) =
+-- what is written then, by the answer to the frame
+abbrev pub PutsFrame : List ℕ → Frames → Option Closing → List Frame → Outside → Outside → List ℕ → ℕ → Writer
+    → Result Unit WriteError → Type 0
+PutsFrame file r closing stood old new name inputs w (Ok x) = HasPut file r closing stood old new name inputs w
+PutsFrame file r closing stood old new name inputs w (Err error) =
     Puts file closing stood old new name inputs w (Err (input.Write error))
 
--- Of the slots only what was written changed: each reader reads on.
+-- what is written of all frames of an input, by the answer
+abbrev pub PutsFrames : List ℕ → Frames → Option Closing → List Frame → Outside → Outside → List ℕ → ℕ → Writer
+    → Result Unit InputError → Type 0
+PutsFrames file r closing stood old new name inputs w (Ok x) =
+    HasPut file r closing stood old new name inputs w × IsEnded file r
+PutsFrames file r closing stood old new name inputs w (Err error) =
+    Puts file closing stood old new name inputs w (Err error)
+
+-- Of the slots only what was written changed, and nothing was taken: each reader reads on.
 pub record OnlyWrites (old new : Outside) : Type 0 where
   pub reads : (r : Reader) → Reads old r → Reads new r
   pub targets : (slot : ℕ) → IsTarget old.slots slot → IsTarget new.slots slot
   pub files : (slot : ℕ) → file_of new slot ≡ file_of old slot
   pub faults : old.faults ≤ new.faults
+  pub taken : new.taken ≡ old.taken

@@ -11,8 +11,10 @@ use Rattle.canonical_writer.specs.Parts.{IsShortClosing}
 use Rattle.canonical_writer.specs.Writer.{Writer}
 use Rattle.splicer.specs.declared.errors.SpliceError.{SpliceError}
 use Rattle.splicer.specs.declared.errors.SpliceError.TheVariants as splice
-use Rattle.splicer.specs.Due.{Due, HoldBytes, IsDueFrom, IsAnswer, Leaves, answer_of}
+use Rattle.frame_reader.specs.Gives.{HoldBytes}
+use Rattle.splicer.specs.Due.{Due, IsDueFrom, IsAnswer, Leaves, answer_of}
 use Rattle.splicer.specs.Made.{IsMade, WritesOneFile}
+use Rattle.splicer.specs.Drawn.{HasDrawn}
 use Rattle.splicer.specs.Put.{HasWritten}
 
 -- ---- on a shelf that tells its files
@@ -42,6 +44,7 @@ pub record HasOpened (files : Files) (names : List (List ℕ)) (old now : Outsid
   pub short : IfSome w.closing IsShortClosing
   pub due : (due : Due) → IsDueFrom files None [] 0 names due
       → IsDueFrom files w.closing stood number (drop number names) due
+  pub draws : HasDrawn files names old now w.closing stood (drop number names)
 
 -- So many inputs are written, and the closing of the first is held.
 pub record HasSpliced (files : Files) (names : List (List ℕ)) (old now : Outside) (to : List ℕ) (number : ℕ)
@@ -54,6 +57,7 @@ pub record HasSpliced (files : Files) (names : List (List ℕ)) (old now : Outsi
   pub written : HasWritten old now to number stood w
   pub due : (due : Due) → IsDueFrom files None [] 0 names due
       → IsDueFrom files (Some closing) stood number (drop number names) due
+  pub draws : HasDrawn files names old now (Some closing) stood (drop number names)
 
 -- The splice has ended with this answer: it is the due one, or the shelf or memory failed, and the file holds what it
 -- holds then. A name that is not held is missed only where that is due.

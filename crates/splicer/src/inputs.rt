@@ -4,22 +4,19 @@ ghost use Rattle.std.specs.Prelude.{◌≡◌, ◌⊎◌, ◌≤◌, ℕ, List, 
 ghost use Rattle.std.specs.Prelude.{is_none, false};
 ghost use Rattle.frame_outside.specs.Counts.{Rose};
 ghost use Rattle.frame_outside.specs.Shelf.{Outside, Told, IsSource, IsTarget, reading_at};
-ghost use Rattle.item_reader.specs.Reader.{Reader, Reads, Goes, HasEnded, file_of};
-ghost use Rattle.contents_table.specs.Layouts.{layouts_of};
-ghost use Rattle.contents_table.specs.declared.layouts.ChannelLayouts.{ChannelLayouts};
+ghost use Rattle.item_reader.specs.Reader.{Reads, file_of};
 ghost use Rattle.frame_content.specs.Frames.{Frame};
 ghost use Rattle.canonical_file.specs.declared.closing.Closing.{Closing};
 ghost use Rattle.canonical_file.specs.Ranges.{AreBytes};
 ghost use Rattle.splicer.specs.Made.{IsMade};
-ghost use Rattle.splicer.specs.Put.{HasPut, Comes, Puts, PutsItem, OnlyWrites};
+ghost use Rattle.splicer.specs.Put.{HasPut, Comes, IsEnded, Puts, PutsFrame, PutsFrames, PutsNext, OnlyWrites};
+ghost use Rattle.splicer.specs.Drawn.{DrawsInput, HasRead};
 
-use crate::closings::closing_of;
 use crate::errors::InputError;
 use canonical_writer::{CanonWriter, WriteError};
-use contents_table::ChannelLayouts;
-use file_grammar::{Fault, Reason};
+use file_grammar::Fault;
 use frame_outside::Shelf;
-use item_reader::{Item, ItemReader};
+use frame_reader::FrameReader;
 use std::alloc::Global;
 
 /// Writes the frames of the file that a source slot was opened on, each as it is read, up to its end or its first
@@ -39,6 +36,10 @@ pub fn put_input<S: Shelf>(
         → file_of (S.outside shelf.old) slot ≡ Some file → length old.slots ≤ slot
         → Comes file stood old (S.outside shelf.old) name inputs is_first writer.old
         → Puts file writer.old.closing stood old (S.outside shelf.new) name inputs writer.new result }
+    ensures draws { (old : Outside) (name : List ℕ) (inputs : ℕ) (stood : List Frame) (file : List ℕ)
+        → file_of (S.outside shelf.old) slot ≡ Some file → length old.slots ≤ slot
+        → Comes file stood old (S.outside shelf.old) name inputs is_first writer.old
+        → DrawsInput file writer.old.closing stood (S.outside shelf.old) (S.outside shelf.new) result }
     ensures made { (old : Outside) (name : List ℕ) (inputs : ℕ) → length old.slots ≤ slot
         → IsMade old (S.outside shelf.old) name inputs writer.old.slot
         → IsMade old (S.outside shelf.new) name inputs writer.new.slot }
@@ -49,66 +50,65 @@ pub fn put_input<S: Shelf>(
     ensures device { result ≡ Err (InputError.Write WriteError.Device)
         → Rose (S.outside shelf.old).faults (S.outside shelf.new).faults }
 {
-    let mut reader = ItemReader::begin(alloc, shelf, slot)?;
+    let mut frames = FrameReader::begin(alloc, shelf, slot)?;
     writer.begin_source();
-    put_items(alloc, shelf, &mut reader, writer, is_first)
+    put_frames(shelf, &mut frames, writer)?;
+    end_input(alloc, &frames, writer, is_first)
 }
 
-/// Writes what a reader gives.
-fn put_items<S: Shelf>(
-    alloc: Global,
+/// Writes the frames that a reader gives.
+fn put_frames<S: Shelf>(
     shelf: &mut S,
-    reader: &mut ItemReader,
+    frames: &mut FrameReader,
     writer: &mut CanonWriter,
-    is_first: bool,
 ) -> Result<(), InputError>
-    requires reads { Reads (S.outside shelf.old) reader.old }
-    requires open { (reader.old.error ≡ None) × (reader.old.before.closed ≡ false) }
+    requires reads { Reads (S.outside shelf.old) frames.old.reader }
+    requires open { (frames.old.reader.error ≡ None) × (frames.old.reader.before.closed ≡ false) }
     requires target { IsTarget (S.outside shelf.old).slots writer.old.slot }
     requires error { writer.old.error ≡ None }
     ensures puts { (old : Outside) (name : List ℕ) (inputs : ℕ) (stood : List Frame) (file : List ℕ)
-        → file_of (S.outside shelf.old) reader.old.position.slot ≡ Some file
-        → length old.slots ≤ reader.old.position.slot → AreBytes file → is_first ≡ is_none writer.old.closing
-        → HasPut file reader.old.order reader.old.before writer.old.closing stood old (S.outside shelf.old) name inputs
-        (layouts_of reader.old.before.dictionary) writer.old
-        → Puts file writer.old.closing stood old (S.outside shelf.new) name inputs writer.new result }
-    ensures made { (old : Outside) (name : List ℕ) (inputs : ℕ) → length old.slots ≤ reader.old.position.slot
+        → file_of (S.outside shelf.old) frames.old.reader.position.slot ≡ Some file
+        → length old.slots ≤ frames.old.reader.position.slot → AreBytes file
+        → HasPut file frames.old writer.old.closing stood old (S.outside shelf.old) name inputs writer.old
+        → PutsFrames file frames.new writer.old.closing stood old (S.outside shelf.new) name inputs writer.new
+        result }
+    ensures draws { (old : Outside) (name : List ℕ) (inputs : ℕ) (stood : List Frame) (file : List ℕ)
+        → file_of (S.outside shelf.old) frames.old.reader.position.slot ≡ Some file
+        → length old.slots ≤ frames.old.reader.position.slot → AreBytes file
+        → HasPut file frames.old writer.old.closing stood old (S.outside shelf.old) name inputs writer.old
+        → (first : Outside) → HasRead file first (S.outside shelf.old) frames.old.reader
+        → DrawsInput file writer.old.closing stood first (S.outside shelf.new) result }
+    ensures made { (old : Outside) (name : List ℕ) (inputs : ℕ) → length old.slots ≤ frames.old.reader.position.slot
         → IsMade old (S.outside shelf.old) name inputs writer.old.slot
         → IsMade old (S.outside shelf.new) name inputs writer.new.slot }
-    ensures slot { writer.new.slot ≡ writer.old.slot }
+    ensures kept { (writer.new.slot ≡ writer.old.slot) × (writer.new.closing ≡ writer.old.closing) }
     ensures target { OnOk result (IsTarget (S.outside shelf.new).slots writer.new.slot) }
     ensures no_error { OnOk result (writer.new.error ≡ None) }
-    ensures holds { OnOk result (IsTrue is_first ⊎ IsSome writer.old.closing → IsSome writer.new.closing) }
     ensures device { result ≡ Err (InputError.Write WriteError.Device)
         → Rose (S.outside shelf.old).faults (S.outside shelf.new).faults }
 {
-    let mut layouts = ChannelLayouts::of(reader.dictionary());
-    'items: loop {
-        let item = reader.next(shelf)?;
-        if let Item::FileEnd { at, .. } = item {
-            return end_input(alloc, reader, writer, is_first, at);
+    'frames: loop {
+        if !frames.next(shelf)? {
+            return Ok(());
         }
-        put_item(shelf, reader, writer, &mut layouts, item)?;
+        put_frame(shelf, frames, writer)?;
     }
 }
 
-/// Writes the frame that an item has ended, and has the layouts of channels that come with an entry.
-fn put_item<S: Shelf>(
+/// Writes the frame that a reader lends.
+fn put_frame<S: Shelf>(
     shelf: &mut S,
-    reader: &ItemReader,
+    frames: &FrameReader,
     writer: &mut CanonWriter,
-    layouts: &mut ChannelLayouts,
-    item: Item,
 ) -> Result<(), WriteError>
-    requires reader { reader.now.error ≡ None }
+    requires reader { frames.now.reader.error ≡ None }
     requires target { IsTarget (S.outside shelf.old).slots writer.old.slot }
     requires error { writer.old.error ≡ None }
     ensures puts { (old : Outside) (name : List ℕ) (inputs : ℕ) (stood : List Frame) (file : List ℕ)
-        (before : Reader) → AreBytes file → Goes file before item reader.now → before.order ≡ reader.now.order
-        → HasPut file before.order before.before writer.old.closing stood old (S.outside shelf.old) name inputs
-        layouts.old writer.old
-        → PutsItem file reader.now.order reader.now.before writer.old.closing stood old (S.outside shelf.new) name
-        inputs layouts.new writer.new result }
+        (frame : Frame)
+        → PutsNext file frame frames.now writer.old.closing stood old (S.outside shelf.old) name inputs writer.old
+        → PutsFrame file frames.now writer.old.closing stood old (S.outside shelf.new) name inputs writer.new
+        result }
     ensures made { (old : Outside) (name : List ℕ) (inputs : ℕ)
         → IsMade old (S.outside shelf.old) name inputs writer.old.slot
         → IsMade old (S.outside shelf.new) name inputs writer.new.slot }
@@ -118,50 +118,41 @@ fn put_item<S: Shelf>(
     ensures device { result ≡ Err WriteError.Device
         → Rose (S.outside shelf.old).faults (S.outside shelf.new).faults }
 {
-    if let Item::Entry { changed: true, .. } = item {
-        *layouts = ChannelLayouts::of(reader.dictionary());
-        return Ok(());
-    }
-    let Some(numbering) = reader.numbering() else {
+    let items = frames.items();
+    let Some(numbering) = items.numbering() else {
         return Ok(());
     };
     writer.frame(
         shelf,
-        reader.segment(),
-        reader.plans(),
-        reader.dictionary(),
-        layouts,
+        items.segment(),
+        items.plans(),
+        items.dictionary(),
+        frames.layouts(),
         numbering,
     )
 }
 
-/// Holds the closing of a file whose end stands at a place, where it is the first.
+/// Holds the closing of a file that has ended, where it is the first.
 fn end_input(
     alloc: Global,
-    reader: &ItemReader,
+    frames: &FrameReader,
     writer: &mut CanonWriter,
     is_first: bool,
-    at: u64,
 ) -> Result<(), InputError>
     requires error { writer.old.error ≡ None }
     ensures ended { (file : List ℕ) (closing : Option Closing) (stood : List Frame)
-        (old now : Outside) (name : List ℕ) (inputs : ℕ) (layouts : ChannelLayouts) → AreBytes file
-        → HasEnded file reader.now → is_first ≡ is_none closing
-        → HasPut file reader.now.order reader.now.before closing stood old now name inputs layouts writer.old
+        (old now : Outside) (name : List ℕ) (inputs : ℕ) → AreBytes file → IsEnded file frames.now
+        → is_first ≡ is_none closing → HasPut file frames.now closing stood old now name inputs writer.old
         → Puts file closing stood old now name inputs writer.new result }
     ensures rest { (writer.new.slot ≡ writer.old.slot) × (writer.new.error ≡ writer.old.error) }
     ensures holds { OnOk result (IsTrue is_first ⊎ IsSome writer.old.closing → IsSome writer.new.closing) }
+    ensures fault { (file : List ℕ) (fault : Fault) → result ≡ Err (InputError.Fault fault) → AreBytes file
+        → IsEnded file frames.now → ⊥ }
     ensures device { result ≡ Err (InputError.Write WriteError.Device) → ⊥ }
 {
     if !is_first {
         return Ok(());
     }
-    match closing_of(alloc, reader.dictionary())? {
-        Some(closing) => Ok(writer.hold_closing(&closing)?),
-        None => Err(InputError::Fault(Fault {
-            at,
-            field: 0,
-            reason: Reason::BadClosing,
-        })),
-    }
+    let closing = frames.closing(alloc)?;
+    Ok(writer.hold_closing(&closing)?)
 }

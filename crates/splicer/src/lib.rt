@@ -1,7 +1,6 @@
 //! Files joined frame after frame into one canonical file. A copy is the splice of one file.
 #![tactic(auto)]
 
-mod closings;
 mod errors;
 mod inputs;
 mod laws;

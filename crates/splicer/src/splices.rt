@@ -1,11 +1,13 @@
 //! Splices: the frames of files in one canonical file, with the closing of the first.
 
 ghost use Rattle.std.specs.Prelude.{◌≡◌, ◌≢◌, ◌<◌, ◌≤◌, ◌^◌, ℕ, List, [], All, map, length, None, Err};
-ghost use Rattle.std.specs.Prelude.{OnOk, IfErr, IsSome};
+ghost use Rattle.std.specs.Prelude.{OnOk, OnErr, IfErr, IsSome};
 ghost use Rattle.std.specs.String.{string_bytes};
 ghost use Rattle.frame_outside.specs.Counts.{Rose};
 ghost use Rattle.frame_outside.specs.Shelf.{Outside, Files, Told, IsSource, IsTarget, reading_at};
+ghost use Rattle.frame_reader.specs.Gives.{HoldBytes};
 ghost use Rattle.splicer.specs.Due.{Due, IsDue, IsDueFrom, IsAnswer, Leaves, answer_of};
+ghost use Rattle.splicer.specs.Drawn.{DrawsInAll};
 ghost use Rattle.splicer.specs.Errors.{IsOfInputs};
 ghost use Rattle.splicer.specs.Made.{IsMade, WritesOneFile};
 ghost use Rattle.splicer.specs.Spliced.{HasOpened, Ends, PutsInputs, LeavesShelf, KeepsShelf};
@@ -32,6 +34,10 @@ use std::alloc::Global;
 /// 2^62 bytes; `OutputLimit` also at the end. The file then holds the canonical head of the frames before. `Device`
 /// at an input that is not held, or where the shelf could not do a call: the file is then as it was, or holds a part
 /// of what was due.
+///
+/// Of the input in which the answer comes no byte is drawn beyond the look of the place there, or of the place after
+/// the entry that stands there. A look goes at most 65,550 bytes beyond its place, or 65,536 beyond the structure that
+/// stands there. Of the inputs after it no byte is drawn.
 pub fn splice<S: Shelf>(
     alloc: Global,
     shelf: &mut S,
@@ -49,6 +55,8 @@ pub fn splice<S: Shelf>(
     ensures misses { Told (S.outside shelf.old).files
         (λ files. (S.outside shelf.old).misses < (S.outside shelf.new).misses → (due : Due)
         → IsDue files (map string_bytes from.now) due → answer_of due ≡ Err SpliceError.Device) }
+    ensures taken { Told (S.outside shelf.old).files (λ files. HoldBytes files
+        → DrawsInAll files (map string_bytes from.now) (S.outside shelf.old) (S.outside shelf.new)) }
     ensures inputs { IfErr result (IsOfInputs (length from.now)) }
     ensures shelf { WritesOneFile (S.outside shelf.old) (S.outside shelf.new) to.now (length from.now) }
     ensures device { result ≡ Err SpliceError.Device
@@ -77,6 +85,9 @@ fn splice_into<S: Shelf>(
         → HasOpened files (map string_bytes from.now) old (S.outside shelf.old) to 0 slot writer → (due : Due)
         → IsDueFrom files None [] 0 (map string_bytes from.now) due
         → Ends files old (S.outside shelf.new) to due result }
+    ensures taken { (old : Outside) (to : List ℕ) (files : Files)
+        → HasOpened files (map string_bytes from.now) old (S.outside shelf.old) to 0 slot writer
+        → DrawsInAll files (map string_bytes from.now) old (S.outside shelf.new) }
     ensures leaves { (old : Outside) (to : List ℕ) → length old.slots ≤ slot
         → IsMade old (S.outside shelf.old) to 1 writer.slot
         → LeavesShelf old (S.outside shelf.new) to (length from.now) result }
@@ -103,6 +114,9 @@ fn put_inputs<S: Shelf>(
     ensures puts { (old : Outside) (to : List ℕ) (files : Files)
         → HasOpened files (map string_bytes from.now) old (S.outside shelf.old) to 0 slot writer.old
         → PutsInputs files (map string_bytes from.now) old (S.outside shelf.new) to writer.new result }
+    ensures taken { OnErr result ((old : Outside) (to : List ℕ) (files : Files)
+        → HasOpened files (map string_bytes from.now) old (S.outside shelf.old) to 0 slot writer.old
+        → DrawsInAll files (map string_bytes from.now) old (S.outside shelf.new)) }
     ensures made { (old : Outside) (to : List ℕ) → length old.slots ≤ slot
         → IsMade old (S.outside shelf.old) to 1 writer.old.slot
         → KeepsShelf old (S.outside shelf.new) to (length from.now) writer.new.slot result }

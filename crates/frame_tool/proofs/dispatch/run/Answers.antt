@@ -3,9 +3,10 @@ use Rattle.std.proofs.Common.{◌≡◌, ◌+◌, length, Option, Some, None, sy
 use Rattle.std.proofs.lemmas.List.{length-map}
 use Rattle.std.specs.String.{string_bytes}
 use Rattle.frame_tool.specs.declared.command.Command.{Command}
-use Rattle.frame_tool.specs.Words.{Form, WalkFile, CheckFile, ListFile, SpliceFiles, form_of, command_of, texts}
+use Rattle.frame_tool.specs.Words.{Form, WalkFile, CheckFile, ListFile, SameFiles, SpliceFiles, form_of}
+use Rattle.frame_tool.specs.Words.{command_of, texts}
 use Rattle.frame_tool.proofs.Replies.{replies_usage, runs_by}
-use Rattle.frame_tool.proofs.SpliceWords.{some_word, splice_read, all_others}
+use Rattle.frame_tool.proofs.SpliceWords.{two_words, splice_read, all_others}
 use Rattle.frame_tool.proofs.dispatch.run.Goals as goal
 
 -- the words are a command that is known better
@@ -22,22 +23,29 @@ pub returns-in-Some-Walk : goal.returns-in-Some-Walk
 returns-in-Some-Walk g c =
     let words = texts c.args.words.now in
     let read = read_as (command_of words) _ _ c.in-Some-Walk.ensures c.in-Some-Walk.field-0-is in
-    runs_by words (Some (WalkFile c.in-Some-Walk.file.now)) 1 _ _ _ _ _ read (some_word words _ (sym read))
-    c.run_walk.ensures
+    runs_by words (Some (WalkFile c.in-Some-Walk.file.now)) 1 _ _ _ _ _ read
+    (omega (arith, two_words words _ (sym read))) c.run_walk.ensures
 
 pub returns-in-Some-Check : goal.returns-in-Some-Check
 returns-in-Some-Check g c =
     let words = texts c.args.words.now in
     let read = read_as (command_of words) _ _ c.in-Some-Check.ensures c.in-Some-Check.field-0-is in
-    runs_by words (Some (CheckFile c.in-Some-Check.file.now)) 1 _ _ _ _ _ read (some_word words _ (sym read))
-    c.run_report.ensures
+    runs_by words (Some (CheckFile c.in-Some-Check.file.now)) 1 _ _ _ _ _ read
+    (omega (arith, two_words words _ (sym read))) c.run_report.ensures
 
 pub returns-in-Some-List : goal.returns-in-Some-List
 returns-in-Some-List g c =
     let words = texts c.args.words.now in
     let read = read_as (command_of words) _ _ c.in-Some-List.ensures c.in-Some-List.field-0-is in
-    runs_by words (Some (ListFile c.in-Some-List.file.now)) 1 _ _ _ _ _ read (some_word words _ (sym read))
-    c.run_report-in-Some-List.ensures
+    runs_by words (Some (ListFile c.in-Some-List.file.now)) 1 _ _ _ _ _ read
+    (omega (arith, two_words words _ (sym read))) c.run_report-in-Some-List.ensures
+
+pub returns-in-Some-Same : goal.returns-in-Some-Same
+returns-in-Some-Same g c =
+    let words = texts c.args.words.now in
+    let read = read_as (command_of words) _ _ c.in-Some-Same.ensures c.in-Some-Same.field-0-is in
+    runs_by words (Some (SameFiles c.in-Some-Same.first.now c.in-Some-Same.second.now)) 2 _ _ _ _ _ read
+    (two_words words _ (sym read)) c.run_same.ensures
 
 pub run_splice-requires-clause-apart : goal.run_splice-requires-clause-apart
 run_splice-requires-clause-apart g c =

@@ -17,6 +17,7 @@ returns-in-Ok g c =
       answer = c.splice.ensures.answer;
       leaves = c.splice.ensures.leaves;
       misses = c.splice.ensures.misses;
+      taken = c.splice.ensures.taken;
       inputs = c.splice.ensures.inputs;
       shelf = c.splice.ensures.shelf;
     }) (ap spliced c.in-Ok.is) (inl refl) (appends_nothing _) (λ _. refl) (λ no. absurd cc)
@@ -30,6 +31,7 @@ returns-in-Err-Device g c =
       answer = c.splice.ensures.answer;
       leaves = c.splice.ensures.leaves;
       misses = c.splice.ensures.misses;
+      taken = c.splice.ensures.taken;
       inputs = c.splice.ensures.inputs;
       shelf = c.splice.ensures.shelf;
     }) (ap spliced is) (inl refl) (prints_whole Device _ _ _ (appends_nothing _))
@@ -44,6 +46,7 @@ returns-in-Err g c =
       answer = c.splice.ensures.answer;
       leaves = c.splice.ensures.leaves;
       misses = c.splice.ensures.misses;
+      taken = c.splice.ensures.taken;
       inputs = c.splice.ensures.inputs;
       shelf = c.splice.ensures.shelf;
     }) (ap spliced c.in-Err.is ∙ sym c.from.ensures) c.answer_line.ensures.answer c.answer_line.ensures.text

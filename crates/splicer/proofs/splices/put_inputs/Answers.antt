@@ -8,7 +8,7 @@ use Rattle.splicer.specs.Made.{IsMade}
 use Rattle.splicer.specs.Spliced.{HasSpliced}
 use Rattle.splicer.proofs.Making.{made-opens}
 use Rattle.splicer.proofs.Splicing.{opened-first_comes, opened-next, opened-comes, opened-ends, opened-written}
-use Rattle.splicer.proofs.Splicing.{ends-refused}
+use Rattle.splicer.proofs.Splicing.{ends-refused, opened-drawn_ends, spliced-drawn}
 use Rattle.splicer.proofs.SpliceErrors.{refused-failed, leaves-input, leaves-refused}
 use Rattle.splicer.proofs.FirstInput.{names-at, opened-beginning, opened-target}
 use Rattle.frame_outside.proofs.Slots.{IsSource-opens}
@@ -21,6 +21,14 @@ returns-in-Err-clause-puts g c = λ old to files opened due is.
     rw c.of_input.ensures (opened-ends files _ old _ _ to 0 c.args.slot c.args.writer.now
     c.put_input.new.writer c.in-Err.error opened puts
     due is)
+
+pub returns-in-Err-clause-taken : goal.returns-in-Err-clause-taken
+returns-in-Err-clause-taken g c = λ old to files opened.
+    let comes = opened-first_comes files _ old _ to c.args.slot c.args.writer.now opened in
+    let puts = c.in-Err.ensures.puts old to 1 opened.stood opened.input opened.opened opened.past comes in
+    let draws = c.in-Err.ensures.draws old to 1 opened.stood opened.input opened.opened opened.past comes in
+    opened-drawn_ends files _ old _ _ to 0 c.args.slot c.args.writer.now c.put_input.new.writer c.in-Err.error opened
+    puts draws
 
 pub returns-in-Err-clause-made : goal.returns-in-Err-clause-made
 returns-in-Err-clause-made g c = λ old to past made.
@@ -35,7 +43,8 @@ inputs-init g c = record {
   puts = λ old to files opened.
       let comes = opened-first_comes files _ old _ to c.args.slot c.args.writer.now opened in
       opened-written files _ old _ _ to 0 c.args.slot c.args.writer.now c.put_input.new.writer opened
-      (c.in_default.ensures.puts old to 1 opened.stood opened.input opened.opened opened.past comes);
+      (c.in_default.ensures.puts old to 1 opened.stood opened.input opened.opened opened.past comes)
+      _ (c.in_default.ensures.draws old to 1 opened.stood opened.input opened.opened opened.past comes);
   made = λ old to past made. c.in_default.ensures.made old to 1 past made;
 }
 
@@ -47,6 +56,13 @@ returns-in_err-slot-clause-puts g c = λ old to files opened.
     (omega arith) c.index-from-number.is c.as_str.ensures.value in
     rw (p.1, p.2) (λ due is. ends-refused files _ old _ _ to c.as_str.result.now _ c.inputs.number c.inputs.writer due
     _ spliced names (refused-failed c.in_err-slot.field-0.0) c.in_err-slot.ensures.refused is)
+
+pub returns-in_err-slot-clause-taken : goal.returns-in_err-slot-clause-taken
+returns-in_err-slot-clause-taken g c =
+    let p = err_from_is_err_and c.from_residual.result c.from_residual.ensures.1 in
+    let refused = c.in_err-slot.ensures.refused in
+    rw p.1 (λ old to files opened. spliced-drawn files _ old _ (g.S.Shelf.outside c.source.new.self) to
+    c.inputs.number c.inputs.writer (c.inputs.invariant.puts old to files opened) (omega (arith, refused.taken)))
 
 pub returns-in_err-slot-clause-made : goal.returns-in_err-slot-clause-made
 returns-in_err-slot-clause-made g c = λ old to past made.
@@ -80,6 +96,23 @@ returns-in-Err-put_input-clause-puts g c = λ old to files first due is.
     rw c.of_input-in-Err-put_input.ensures (opened-ends files _ old _ _ to n c.in_ok-slot.slot c.inputs.writer
     c.put_input-in-inputs.new.writer c.in-Err-put_input.error opened puts due is)
 
+pub returns-in-Err-put_input-clause-taken : goal.returns-in-Err-put_input-clause-taken
+returns-in-Err-put_input-clause-taken g c = λ old to files first.
+    let n = c.inputs.number in
+    let spliced = c.inputs.invariant.puts old to files first in
+    let names = names-at string_bytes c.args.from.now n c.index-from-number.result c.as_str.result.now
+    (omega arith) c.index-from-number.is c.as_str.ensures.value in
+    let opened = opened-next files _ old _ _ to c.as_str.result.now _ n c.in_ok-slot.slot c.inputs.writer
+    c.source.result spliced names c.source.ensures.missing c.in_ok-slot.was c.in_ok-slot.ensures.ok (omega arith) in
+    let comes = opened-comes files _ old _ to n c.in_ok-slot.slot false c.inputs.writer opened
+    (sym (ap (λ (c : Option Closing). is_none c) spliced.closing_is)) in
+    let puts = c.in-Err-put_input.ensures.puts old to (n + 1) opened.stood opened.input opened.opened opened.past
+    comes in
+    let draws = c.in-Err-put_input.ensures.draws old to (n + 1) opened.stood opened.input opened.opened opened.past
+    comes in
+    opened-drawn_ends files _ old _ _ to n c.in_ok-slot.slot c.inputs.writer c.put_input-in-inputs.new.writer
+    c.in-Err-put_input.error opened puts draws
+
 pub returns-in-Err-put_input-clause-made : goal.returns-in-Err-put_input-clause-made
 returns-in-Err-put_input-clause-made g c = λ old to past made.
     let n = c.inputs.number in
@@ -107,7 +140,9 @@ inputs-preserved g c = record {
       let comes = opened-comes files _ old _ to n c.in_ok-slot.slot false c.inputs.writer opened
       (sym (ap (λ (c : Option Closing). is_none c) spliced.closing_is)) in
       opened-written files _ old _ _ to n c.in_ok-slot.slot c.inputs.writer c.put_input-in-inputs.new.writer opened
-      (c.in_default-put_input.ensures.puts old to (n + 1) opened.stood opened.input opened.opened opened.past comes);
+      (c.in_default-put_input.ensures.puts old to (n + 1) opened.stood opened.input opened.opened opened.past comes)
+      _
+      (c.in_default-put_input.ensures.draws old to (n + 1) opened.stood opened.input opened.opened opened.past comes);
   made = λ old to past made.
       let n = c.inputs.number in
       let before = c.inputs.invariant.made old to past made in

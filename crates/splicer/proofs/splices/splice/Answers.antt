@@ -4,14 +4,16 @@ use Rattle.std.proofs.lemmas.List.Elements.{All-map}
 use Rattle.std.proofs.lemmas.Result.{err_from_is_err_and}
 use Rattle.frame_head.specs.Header.{header_bytes}
 use Rattle.frame_outside.specs.Shelf.{Files}
+use Rattle.frame_reader.specs.Gives.{HoldBytes}
 use Rattle.splicer.specs.Due.{Due, IsDue, IsDueFrom}
 use Rattle.splicer.specs.Made.{IsMade}
-use Rattle.splicer.specs.Spliced.{TellsFiles, Ends, LeavesShelf}
+use Rattle.splicer.specs.Spliced.{TellsFiles, HasOpened, Ends, LeavesShelf}
+use Rattle.splicer.proofs.DrawnInputs.{drawn-none}
 use Rattle.splicer.proofs.Making.{made-begun}
 use Rattle.splicer.proofs.Splicing.{ends-unopened}
 use Rattle.splicer.proofs.SpliceErrors.{refused-failed, begun-failed}
 use Rattle.splicer.proofs.FirstInput.{names-at, first-source, first-beginning, first-target, opened-first, ends-unbegun}
-use Rattle.splicer.proofs.FirstInput.{one-unbegun}
+use Rattle.splicer.proofs.FirstInput.{unbegun-taken, one-unbegun}
 use Rattle.splicer.proofs.splices.splice.Goals as goal
 
 pub returns-in_err-slot-clause-misses : goal.returns-in_err-slot-clause-misses
@@ -22,6 +24,12 @@ returns-in_err-slot-clause-misses g c = λ files told more due is.
     c.as_str.result.now _ due _ told (refused-failed c.in_err-slot.field-0.0) c.in_err-slot.ensures.refused
     (subst (λ ns. IsDueFrom files None [] 0 ns due) names is.from)).misses more
 
+pub returns-in_err-slot-clause-taken : goal.returns-in_err-slot-clause-taken
+returns-in_err-slot-clause-taken g c = λ files told bytes.
+    let refused = c.in_err-slot.ensures.refused in
+    drawn-none files (map string_bytes c.args.from.now) (g.S.Shelf.outside c.args.shelf.now)
+    (g.S.Shelf.outside c.source.new.self) (omega (arith, refused.taken))
+
 pub returns-in_err-writer-clause-leaves : goal.returns-in_err-writer-clause-leaves
 returns-in_err-writer-clause-leaves g c = λ files told due is.
     let p = err_from_is_err_and c.from_residual-in_err-writer.result c.from_residual-in_err-writer.ensures.1 in
@@ -29,6 +37,13 @@ returns-in_err-writer-clause-leaves g c = λ files told due is.
     (g.S.Shelf.outside c.source.new.self) (g.S.Shelf.outside c.begin.new.shelf) c.args.to.now c.as_str.result.now
     c.in_ok-slot.slot due _ told (begun-failed c.in_err-writer.field-0.0 c.in_err-writer.ensures.errors)
     c.in_ok-slot.ensures.ok c.in_err-writer.ensures.refused is.from).leaves
+
+pub returns-in_err-writer-clause-taken : goal.returns-in_err-writer-clause-taken
+returns-in_err-writer-clause-taken g c = λ files told bytes.
+    drawn-none files (map string_bytes c.args.from.now) (g.S.Shelf.outside c.args.shelf.now)
+    (g.S.Shelf.outside c.begin.new.shelf)
+    (unbegun-taken _ _ _ c.as_str.result.now c.args.to.now c.in_ok-slot.slot c.in_ok-slot.ensures.ok
+    c.in_err-writer.ensures.refused)
 
 pub returns-in_err-writer-clause-shelf : goal.returns-in_err-writer-clause-shelf
 returns-in_err-writer-clause-shelf g c =
@@ -45,12 +60,11 @@ splice_into-requires-clause-beginning g c =
 pub splice_into-requires-clause-target : goal.splice_into-requires-clause-target
 splice_into-requires-clause-target g c = first-target _ _ _ _ c.in_ok-writer.ensures.made
 
-ended : (g : _) (c : goal.After-splice_into g) (files : Files)
-    → (g.S.Shelf.outside c.args.shelf.now).files ≡ Some files → (due : Due)
-    → IsDue files (map string_bytes c.args.from.now) due
-    → Ends files (g.S.Shelf.outside c.args.shelf.now) (g.S.Shelf.outside c.splice_into.new.shelf) c.args.to.now due
-    c.splice_into.result
-ended g c files told due is =
+opened : (g : _) (c : goal.After-splice_into g) (files : Files)
+    → (g.S.Shelf.outside c.args.shelf.now).files ≡ Some files → HoldBytes files
+    → HasOpened files (map string_bytes c.args.from.now) (g.S.Shelf.outside c.args.shelf.now)
+    (g.S.Shelf.outside c.begin.new.shelf) c.args.to.now 0 c.in_ok-slot.slot c.in_ok-writer.writer
+opened g c files told bytes =
     let old = g.S.Shelf.outside c.args.shelf.now in
     let to = c.args.to.now in
     let all = map string_bytes c.args.from.now in
@@ -58,14 +72,22 @@ ended g c files told due is =
     c.index-from-0.is c.as_str.ensures.value in
     let tells : TellsFiles files all old to = record {
       told = told;
-      bytes = is.bytes;
+      bytes = bytes;
       apart = All-map (λ name. name ≢ to) string_bytes c.args.from.now c.requires.apart;
     } in
-    let opened = opened-first files all old (g.S.Shelf.outside c.source.new.self) (g.S.Shelf.outside c.begin.new.shelf)
-    to c.as_str.result.now (drop 1 all) c.in_ok-slot.slot c.in_ok-writer.writer tells names
+    opened-first files all old (g.S.Shelf.outside c.source.new.self) (g.S.Shelf.outside c.begin.new.shelf) to
+    c.as_str.result.now (drop 1 all) c.in_ok-slot.slot c.in_ok-writer.writer tells names
     (λ missing. let failed = c.source.ensures.missing files told missing in let was = c.in_ok-slot.was in cc)
-    c.in_ok-slot.ensures.ok c.in_ok-writer.ensures.made c.in_ok-writer.ensures.begun in
-    c.splice_into.ensures.ends old to files opened due is.from
+    c.in_ok-slot.ensures.ok c.in_ok-writer.ensures.made c.in_ok-writer.ensures.begun
+
+ended : (g : _) (c : goal.After-splice_into g) (files : Files)
+    → (g.S.Shelf.outside c.args.shelf.now).files ≡ Some files → (due : Due)
+    → IsDue files (map string_bytes c.args.from.now) due
+    → Ends files (g.S.Shelf.outside c.args.shelf.now) (g.S.Shelf.outside c.splice_into.new.shelf) c.args.to.now due
+    c.splice_into.result
+ended g c files told due is =
+    c.splice_into.ensures.ends (g.S.Shelf.outside c.args.shelf.now) c.args.to.now files (opened g c files told is.bytes)
+    due is.from
 
 pub returns-clause-answer : goal.returns-clause-answer
 returns-clause-answer g c = λ files told due is. (ended g c files told due is).answer
@@ -75,6 +97,10 @@ returns-clause-leaves g c = λ files told due is. (ended g c files told due is).
 
 pub returns-clause-misses : goal.returns-clause-misses
 returns-clause-misses g c = λ files told more due is. (ended g c files told due is).misses more
+
+pub returns-clause-taken : goal.returns-clause-taken
+returns-clause-taken g c = λ files told bytes.
+    c.splice_into.ensures.taken (g.S.Shelf.outside c.args.shelf.now) c.args.to.now files (opened g c files told bytes)
 
 left : (g : _) (c : goal.After-splice_into g)
     → LeavesShelf (g.S.Shelf.outside c.args.shelf.now) (g.S.Shelf.outside c.splice_into.new.shelf) c.args.to.now

@@ -23,7 +23,7 @@ returns-in_err-push_record-clause-clash c = λ class was is ready.
     let p = err_from_is_err_and c.from_residual-in_err-push_record.result c.from_residual-in_err-push_record.ensures.1 in
     let source = c.args.frame.now in let count = c.loop-node.node-index in
     let filled = c.loop-node.invariant is ready in
-    let placed = placed-at source count c.loop-node.self is c.loop-node-test.true filled.links_are in
+    let placed = placed-at source count c.loop-node.self.links is c.loop-node-test.true filled.links_are in
     let w : c.from_residual-in_err-push_record.result ≡ Err (error.Clash class) = was in
     filled-clash c.args.at (option_copied c.args.closing) c.args.used.now c.loop-node.used source count class
     c.loop-node.self filled c.loop-node-test.true
@@ -34,7 +34,7 @@ loop-node-preserved c = λ is ready. elim c.if-node-len.branch [
   | then-node-len+in_ok-push_record w ↦
       let source = c.args.frame.now in let count = c.loop-node.node-index in let closing = option_copied c.args.closing in
       let filled = c.loop-node.invariant is ready in
-      let placed = placed-at source count c.loop-node.self is c.loop-node-test.true filled.links_are in
+      let placed = placed-at source count c.loop-node.self.links is c.loop-node-test.true filled.links_are in
       let more = filled-more c.args.at closing c.args.used.now c.loop-node.used w.push_record.new.used source count
       (get_or source.order.now count 0) c.loop-node.self w.push_record.new.self filled placed
       (w.in_ok-push_record.ensures.used count placed filled.used_are.ready)

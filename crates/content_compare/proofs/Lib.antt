@@ -1,0 +1,12 @@
+pub mod ReadFaults
+pub mod SameClosings
+pub mod FirstDifferences
+pub mod LentFrames
+pub mod OneDue
+pub mod Draws
+pub mod ReadingOn
+pub mod Sides
+pub mod Comparing
+pub mod Answering
+pub mod OpenedFiles
+pub mod BothBegun

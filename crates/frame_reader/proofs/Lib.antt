@@ -1,0 +1,7 @@
+pub mod FirstItems
+pub mod ItemsCome
+pub mod NamedEntries
+pub mod Ended
+pub mod Giving
+pub mod OnTheWay
+pub mod Faulty

@@ -1,0 +1,4 @@
+pub mod Gives
+pub mod Given
+pub mod Closings
+pub mod Laws
