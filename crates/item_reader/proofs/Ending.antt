@@ -24,7 +24,9 @@ use Rattle.item_reader.specs.Judged.{InEachFile, Answers, Takes, ClosesBy}
 use Rattle.item_reader.specs.Reader.{Faults, Collects}
 use Rattle.item_reader.specs.Cursor.{HasPassed, InFile, Gives, body_in}
 use Rattle.item_reader.proofs.Collecting.{frame-collected}
-use Rattle.item_reader.proofs.Giving.{other-taken, body-taken, tells-other, file_end-item}
+use Rattle.item_reader.specs.Given.{entry_in}
+use Rattle.item_reader.proofs.Giving.{other-taken, body-taken, other-entry, other-instance, tells-other}
+use Rattle.item_reader.proofs.Giving.{file_end-item}
 use Rattle.item_reader.proofs.Passing.{look-head}
 
 -- ---- one byte more
@@ -85,13 +87,16 @@ pub gives-end : (h : Here) (item : Given) (new : Cursor) (takes : Takes h item n
     → kind h ≡ FrEndOfFile → StandsIn h.order (place h) p new.own.items h.file
     → new.state.segment.order ≡ h.order → IsSound new.state → new.state.segment.pending ≡ []
     → new.state.numbering ≡ None → IsLooked h.order h.file new.state.at new.source.at new.looked
-    → new.state.at ≡ length h.file → Gives h item new
-gives-end h item new takes p is stands order sound none frame looked ends =
+    → new.state.at ≡ length h.file → new.instance ≡ p.instance → Gives h item new
+gives-end h item new takes p is stands order sound none frame looked ends instance =
     let found = end-item h item new.state takes is in
     record {
       takes = takes;
       body_is = ap (λ i. body_in (Some i) new.own.items new.state.segment) found.1.4
           ∙ body-taken h takes.taken p new.own.items found.0 (ap is_table_kind is) stands;
+      entry_is = ap (λ i. entry_in (Some i) new.kept new.state.dictionary) found.1.4
+          ∙ other-entry takes.taken (structure h) found.0;
+      instance_is = other-instance h takes.taken p new.instance found.0 stands.placed instance;
       frame = subst (λ i. Collects h i (before_of new.state) new.state.numbering new.state.segment)
           (sym found.1.4)
           (frame-collected h.order new.state order sound frame none, frame);

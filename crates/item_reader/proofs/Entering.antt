@@ -1,14 +1,14 @@
 -- An entry: what is read of it describes it, how far was read for it, and what is given of it.
 use Rattle.std.proofs.Common.{◌≡◌, ◌+◌, ◌≤◌, ℕ, Bool, List, [], Result, Ok, Err, Option, Some, None}
 use Rattle.std.proofs.Common.{inl, inr, refl, sym, ap, ◌∙◌, subst}
-use Rattle.std.specs.Prelude.{map, OnOk, IfOk, option_map}
+use Rattle.std.specs.Prelude.{map, OnOk, IfOk, IsSome, option_map, length}
 use Rattle.scalar_types.specs.declared.Order.{Order}
 use Rattle.frame_outside.specs.Shelf.{Outside, Told, reading_at}
 use Rattle.structure_source.specs.Source.{Position, Stands, GoesOn}
 use Rattle.structure_source.proofs.Going.{at-now}
 use Rattle.dictionary.specs.declared.entries.Entry.{Entry}
 use Rattle.file_grammar.specs.declared.kind.Kind.TheVariants.{FrSH}
-use Rattle.file_grammar.specs.Structure.{Structure, end_of}
+use Rattle.file_grammar.specs.Structure.{Structure, end_of, structure_at}
 use Rattle.file_grammar.specs.Kind.{kind_of}
 use Rattle.file_grammar.specs.Described.{longest_run, entry_from}
 use Rattle.file_grammar.specs.Item.{Item, EntryItem}
@@ -27,10 +27,11 @@ use Rattle.item_reader.specs.Placed.{StandsIn}
 use Rattle.item_reader.specs.Looked.{look, IsLooked, IsAfterEntry, IsWithinLook}
 use Rattle.item_reader.specs.Entries.{IsRun, Begins, elements_from, end_from}
 use Rattle.item_reader.specs.State.{here_in, before_of}
-use Rattle.item_reader.specs.Given.{Tells, body_after}
-use Rattle.item_reader.specs.Judged.{DescribesEntry, Answers, ClosesBy, IsKept, IsOpenStill}
-use Rattle.item_reader.specs.Reader.{IsFrameOf, Collects}
+use Rattle.item_reader.specs.Given.{Tells, body_after, entry_given, instance_given, entry_in}
+use Rattle.item_reader.specs.Judged.{DescribesEntry, IsBeside, Answers, ClosesBy, IsKept, IsOpenStill}
+use Rattle.item_reader.specs.Reader.{IsFrameOf, Collects, IsEntry}
 use Rattle.item_reader.specs.Cursor.{InFile, GivesNext, body_in}
+use Rattle.item_reader.proofs.CutEntry.{cut-whole}
 use Rattle.item_reader.proofs.Located.{kind-here, end-here, whole-here}
 use Rattle.item_reader.proofs.Giving.{gives-open}
 
@@ -108,43 +109,82 @@ entry-told h head run e (given.FrameEnd at class) t = absurd t
 entry-told h head run e (given.Table at class size) t = absurd t
 entry-told h head run e (given.FileEnd at class size seek) t = absurd t
 
--- the item that stands at an FrSH is an entry, and no body is lent after it
+-- What is given of an entry: no body is lent after it, and its instance is told as 0.
+record IsEntryItem (h : Here) (item : Given) (taken : Item) (found : Option Entry) : Type 0 where
+  pub told : (at : ℕ) × (class : ℕ) × (changed : Bool) × (item ≡ given.Entry at class changed)
+  pub body : body_after h taken ≡ []
+  pub entry : entry_given taken ≡ found
+  pub instance : instance_given taken ≡ 0
+
+-- the item that stands at an FrSH is one
 entry-item : (h : Here) (item : Given) (taken : Item) → item_by FrSH h ≡ Some taken → Tells h taken item
-    → ((at : ℕ) × (class : ℕ) × (changed : Bool) × (item ≡ given.Entry at class changed))
-    × (body_after h taken ≡ [])
+    → IsEntryItem h item taken (entry_from h.order h.file (structure h))
 entry-item h item taken is tells = by (entry_from h.order h.file (structure h)) is
   where
     run : List Structure
     run = map (λ e. e.0) (longest_run h.order h.file (end_of (structure h)))
 
     by : (o : Option Entry) → option_map (λ e. EntryItem (structure h) run e) o ≡ Some taken
-        → ((at : ℕ) × (class : ℕ) × (changed : Bool) × (item ≡ given.Entry at class changed))
-        × (body_after h taken ≡ [])
+        → IsEntryItem h item taken o
     by None is = cc
     by (Some e) is =
-        let same : EntryItem (structure h) run e ≡ taken = cc in (
-          entry-told h (structure h) run e item (subst (λ t. Tells h t item) (sym same) tells),
-          ap (body_after h) (sym same),
-        )
+        let same : EntryItem (structure h) run e ≡ taken = cc in
+        record {
+          told = entry-told h (structure h) run e item (subst (λ t. Tells h t item) (sym same) tells);
+          body = ap (body_after h) (sym same);
+          entry = ap entry_given (sym same);
+          instance = ap instance_given (sym same);
+        }
+
+-- the entry that was taken is the whole one
+whole-entry : (order : Order) (file : List ℕ) (at : ℕ) (entry : Entry) (end : ℕ)
+    → DescribesEntry order file at entry end → length entry.elements ≤ 4096
+    → Some entry ≡ entry_from order file (structure_at order file at)
+whole-entry order file at entry end d short =
+    ap Some (d.entry_is ∙ cut-whole d.full (subst (λ (e : Entry). length e.elements ≤ 4096) d.entry_is short))
+    ∙ sym d.full_is
+
+-- it is lent with what was kept beside the dictionary
+pub lent-beside : (r : Result Given ReadError) (entry : Entry) (old : List Entry) (kept : Option Entry) (new : List Entry)
+    → IfOk r (λ item. (kept : Option Entry) → IsBeside old entry kept → entry_in (Some item) kept new ≡ Some entry)
+    → IsBeside old entry kept → IfOk r (λ item. entry_in (Some item) kept new ≡ Some entry)
+lent-beside (Ok item) entry old kept new lent beside = lent kept beside
+lent-beside (Err e) entry old kept new lent beside = tt
+
+-- so an entry is lent
+pub lends-one : (r : Result Given ReadError) (entry : Entry) (kept : Option Entry) (held : List Entry)
+    → IfOk r (λ item. entry_in (Some item) kept held ≡ Some entry)
+    → IfOk r (λ item. IsEntry item → IsSome (entry_in (Some item) kept held))
+lends-one (Ok item) entry kept held lent = λ is. subst IsSome (sym lent) refl
+lends-one (Err e) entry kept held lent = tt
 
 -- What taking it answers is what is given of it, where what stands after it was looked at.
-pub gives-entry : (h : Here) (old : State) (end : ℕ) (r : Result Given ReadError) (new : Cursor)
+pub gives-entry : (h : Here) (old : State) (end : ℕ) (r : Result Given ReadError) (new : Cursor) (entry : Entry)
     → kind h ≡ FrSH → old.segment.order ≡ h.order → old.segment.pending ≡ [] → old.numbering ≡ None
     → IsLooked h.order h.file end new.source.at new.looked → Answers h r new.state
     → OnOk r (new.state.at ≡ end) → IfOk r (λ item. ClosesBy item new.state.closed)
     → OnOk r (old.segment.pending ≡ [] → IsKept old new.state) → OnOk r (IsOpenStill old new.state)
+    → DescribesEntry h.order h.file (place h) entry end → OnOk r (length entry.elements ≤ 4096)
+    → IfOk r (λ item. entry_in (Some item) new.kept new.state.dictionary ≡ Some entry) → new.instance ≡ 0
     → GivesNext h r new
-gives-entry h old end (Ok item) new is order none frame looked takes moved closes keeps still =
+gives-entry h old end (Ok item) new entry is order none frame looked takes moved closes keeps still d short lent instance =
     let found = entry-item h item takes.taken (sym (ap (λ k. item_by k h) is) ∙ takes.is) takes.tells in
     let kept : IsKept old new.state = keeps none in
     gives-open h item new takes
-    (ap (λ i. body_in (Some i) new.own.items new.state.segment) found.0.3 ∙ sym found.1)
+    (ap (λ i. body_in (Some i) new.own.items new.state.segment) found.told.3 ∙ sym found.body)
+    (lent ∙ whole-entry h.order h.file (place h) entry end d short ∙ sym found.entry)
+    (instance ∙ sym found.instance)
     (subst (λ i. IsFrameOf h.order (before_of new.state) new.state.segment × (new.state.numbering ≡ None)
-    → Collects h i (before_of new.state) new.state.numbering new.state.segment) (sym found.0.3) (λ f. f))
+    → Collects h i (before_of new.state) new.state.numbering new.state.segment) (sym found.told.3) (λ f. f))
     (kept.order ∙ order) kept.sound kept.pending (still.numbering ∙ frame)
     (subst (λ at. IsLooked h.order h.file at new.source.at new.looked) (sym moved) looked)
-    (subst (λ i. ClosesBy i new.state.closed) found.0.3 closes)
-gives-entry h old end (Err (error.Fault fault)) new is order none frame looked told moved closes keeps still =
+    (subst (λ i. ClosesBy i new.state.closed) found.told.3 closes)
+gives-entry h old end (Err (error.Fault fault)) new entry is order none frame looked told moved closes keeps still d short
+    lent instance =
     inl told
-gives-entry h old end (Err error.Device) new is order none frame looked told moved closes keeps still = tt
-gives-entry h old end (Err error.NoMemory) new is order none frame looked told moved closes keeps still = tt
+gives-entry h old end (Err error.Device) new entry is order none frame looked told moved closes keeps still d short lent
+    instance =
+    tt
+gives-entry h old end (Err error.NoMemory) new entry is order none frame looked told moved closes keeps still d short lent
+    instance =
+    tt

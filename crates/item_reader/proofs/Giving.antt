@@ -32,13 +32,13 @@ use Rattle.scalar_types.specs.declared.Order.{Order}
 use Rattle.std.proofs.lemmas.Bool.{false≢true}
 use Rattle.item_reader.specs.declared.looked.Looked.{Looked}
 use Rattle.item_reader.specs.declared.looked.Looked.TheVariants.{Nothing}
-use Rattle.item_reader.specs.Given.{body_after, Tells, TellsKind}
+use Rattle.item_reader.specs.Given.{body_after, Tells, TellsKind, entry_given, instance_given, entry_in}
 use Rattle.item_reader.specs.Reader.{IsFrameOf, Collects}
 use Rattle.item_reader.proofs.Collecting.{frame-collected}
 use Rattle.item_reader.specs.Judged.{Takes, ClosesBy}
 use Rattle.item_reader.specs.State.{here_in, before_of, IsSound}
 use Rattle.item_reader.specs.Cursor.{GivesNext, Gives, InFile, table_body, body_in}
-use Rattle.item_reader.proofs.Located.{told-here, class-here, body-here, fault-kind}
+use Rattle.item_reader.proofs.Located.{told-here, class-here, instance-here, body-here, fault-kind}
 
 -- an error that is passed on is the same
 pub err-passed : {T E : Type 0} (r : Result T E) (e : E) (P : Result T E → Type 0) → IsErrAnd r (λ x. x ≡ e) → P (Err e)
@@ -115,6 +115,15 @@ table-taken h taken p is table placed =
     ∙ sym (ap (λ k. cond (is_table_kind k && is_none (layout_in (held h) (class h))) [] (structure h).body) table)
     ∙ sym (ap (body_after h) is)
 
+-- it is no entry, and its instance is told
+pub other-entry : (taken : Item) (s : Structure) → taken ≡ OtherItem s → None ≡ entry_given taken
+other-entry taken s is = sym (ap entry_given is)
+
+pub other-instance : (h : Here) (taken : Item) (p : Placed) (instance : ℕ) → taken ≡ OtherItem (structure h)
+    → IsPlaced h.order h.file (place h) p → instance ≡ p.instance → instance ≡ instance_given taken
+other-instance h taken p instance is placed same =
+    same ∙ sym (instance-here h p placed) ∙ sym (ap instance_given is)
+
 -- nothing was looked at
 pub looked-nothing : (order : Order) (file : List ℕ) (place read : ℕ) (looked : Looked) → looked ≡ Nothing
     → read ≡ place → IsLooked order file place read looked
@@ -123,14 +132,18 @@ looked-nothing order file place read looked none is = subst (IsLooked order file
 -- an item after which the frame is open and the file goes on
 pub gives-open : (h : Here) (item : Given) (new : Cursor) (takes : Takes h item new.state)
     → body_in (Some item) new.own.items new.state.segment ≡ body_after h takes.taken
+    → entry_in (Some item) new.kept new.state.dictionary ≡ entry_given takes.taken
+    → new.instance ≡ instance_given takes.taken
     → (IsFrameOf h.order (before_of new.state) new.state.segment × (new.state.numbering ≡ None)
     → Collects h item (before_of new.state) new.state.numbering new.state.segment)
     → new.state.segment.order ≡ h.order → IsSound new.state → new.state.segment.pending ≡ []
     → new.state.numbering ≡ None → IsLooked h.order h.file new.state.at new.source.at new.looked
     → new.state.closed ≡ false → Gives h item new
-gives-open h item new takes body collects order sound none frame looked unclosed = record {
+gives-open h item new takes body entry instance collects order sound none frame looked unclosed = record {
   takes = takes;
   body_is = body;
+  entry_is = entry;
+  instance_is = instance;
   frame = collects (frame-collected h.order new.state order sound frame none, frame);
   looked = looked;
   end = λ closed. absurd (false≢true (sym unclosed ∙ closed));
@@ -223,13 +236,16 @@ pub gives-table : (h : Here) (item : Given) (new : Cursor) (takes : Takes h item
     → new.own.items ≡ table_body (held h) p (body_of h.file p)
     → new.state.segment.order ≡ h.order → IsSound new.state → new.state.segment.pending ≡ []
     → new.state.numbering ≡ None → IsLooked h.order h.file new.state.at new.source.at new.looked
-    → ClosesBy item new.state.closed → Gives h item new
-gives-table h item new takes p is placed own order sound none frame looked closes =
+    → ClosesBy item new.state.closed → new.instance ≡ p.instance → Gives h item new
+gives-table h item new takes p is placed own order sound none frame looked closes instance =
     let other : takes.taken ≡ OtherItem (structure h) = other-taken h item new.state takes FrTOC is refl in
     let table = table-item h (structure h) item (tells-other h takes.taken item FrTOC takes.tells other is) in
     gives-open h item new takes
     (ap (λ i. body_in (Some i) new.own.items new.state.segment) table.3
     ∙ own ∙ table-taken h takes.taken p other is placed)
+    (ap (λ i. entry_in (Some i) new.kept new.state.dictionary) table.3
+    ∙ other-entry takes.taken (structure h) other)
+    (other-instance h takes.taken p new.instance other placed instance)
     (subst (λ i. IsFrameOf h.order (before_of new.state) new.state.segment × (new.state.numbering ≡ None)
     → Collects h i (before_of new.state) new.state.numbering new.state.segment) (sym table.3) (λ f. f))
     order sound none frame looked (subst (λ i. ClosesBy i new.state.closed) table.3 closes)

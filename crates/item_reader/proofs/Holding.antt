@@ -1,11 +1,11 @@
 -- An entry that the dictionary is given: what was held before, and what it holds and the plans are after it.
-use Rattle.std.proofs.Common.{◌≡◌, inl, inr, ℕ, ◌+◌, ◌≤◌, true, false, List, [], ◌∷◌, ◌++◌, Option, Some}
+use Rattle.std.proofs.Common.{◌≡◌, inl, inr, ℕ, ◌+◌, ◌≤◌, Bool, cond, true, false, List, [], ◌∷◌, ◌++◌, Option, Some}
 use Rattle.std.proofs.Common.{None, Result}
 use Rattle.std.proofs.Common.{Ok, Err, IfOk, IfErr, OnOk, refl, sym, ap, ◌∙◌, subst, is_some, arith}
 use Rattle.std.specs.Prelude.{nat_eq, nat_lt, IfSome}
 use Rattle.std.specs.Option.{option_map_or}
 use Rattle.std.specs.Result.{IsOkUnless}
-use Rattle.std.proofs.lemmas.Bool.{false≢true}
+use Rattle.std.proofs.lemmas.Bool.{false≢true, le-ltb}
 use Rattle.std.proofs.lemmas.Option.{same_Some, none-some}
 use Rattle.indexmap.specs.IndexMap.{insert_entry}
 use Rattle.dictionary.specs.declared.entries.Entry.{Entry}
@@ -33,7 +33,9 @@ use Rattle.item_reader.specs.declared.state.State.{State}
 use Rattle.item_reader.specs.declared.structure.Placed.{Placed}
 use Rattle.item_reader.specs.Placed.{IsPlaced, StandsIn}
 use Rattle.item_reader.specs.State.{here_in}
-use Rattle.item_reader.specs.Judged.{entry_reasons, DescribesEntry, Holds, AnswersHolding}
+use Rattle.item_reader.specs.declared.item.Item.TheVariants as given
+use Rattle.item_reader.specs.Given.{entry_within, entry_in}
+use Rattle.item_reader.specs.Judged.{entry_reasons, DescribesEntry, Holds, IsBeside, AnswersHolding}
 use Rattle.item_reader.proofs.CutEntry.{step-cut, taken-short}
 use Rattle.item_reader.proofs.Growing.{entry_of-own, longer, step-cases, plans-read, plans-unread}
 use Rattle.item_reader.proofs.Located.{told-here, class-here}
@@ -247,3 +249,39 @@ holds-grown s entry x next learned plans sound stepped fresh held read unread = 
     by (Some fs) layout read unread class =
         ap (λ ps. plan_of ps class) read ∙ plans-read s.plans s.dictionary entry fs plans fresh layout class
         ∙ ap (λ d. layout_in d class) (sym g.next_is)
+
+-- ---- what is lent of it
+
+-- an entry that joins the dictionary stands in it
+within-grown : (held : List Entry) (e : Entry) (next : List Entry) → e.class ≤ 255 → next ≡ held ++ e ∷ []
+    → entry_of held e.class ≡ None → entry_within next e.class ≡ Some e
+within-grown held e next high grown fresh =
+    ap (λ b. cond b None (entry_of next e.class)) (le-ltb 255 e.class high)
+    ∙ ap (λ d. entry_of d e.class) grown ∙ entry_of-own held e fresh
+
+-- the entry that was taken is lent, of the dictionary or of what was kept beside it
+pub lent-entry : (s : State) (entry : Entry) (at : ℕ) (changed : Bool) (new : State) (kept : Option Entry)
+    → Holds s entry changed new → IsBeside s.dictionary entry kept
+    → entry_in (Some (given.Entry at entry.class changed)) kept new.dictionary ≡ Some entry
+lent-entry s entry at true new kept holds beside =
+    elim (step-cases s.dictionary entry new.dictionary holds.step_is) [
+      | inl stays ↦ absurd (holds.changed_is.0 refl stays.1)
+      | inr grows ↦ within-grown s.dictionary entry new.dictionary grows.0 grows.1 grows.2
+    ]
+lent-entry s entry at false new kept holds beside =
+    elim (step-cases s.dictionary entry new.dictionary holds.step_is) [
+      | inl stays ↦ beside (holds.step_is ∙ ap Ok stays.1)
+      | inr grows ↦ absurd (false≢true (holds.changed_is.1
+          (λ same. longer s.dictionary entry (sym grows.1 ∙ same))))
+    ]
+
+-- an entry that would change the dictionary is of a class that it does not hold
+pub not-beside : (held : List Entry) (e : Entry) → 3 ≤ e.class → (e.class ≤ 255 → entry_of held e.class ≡ None)
+    → IsBeside held e None
+not-beside held e low fresh = λ stays. absurd (elim (step-cases held e held stays) [
+  | inl same ↦ elim same.2 [
+    | inl built_in ↦ omega (arith, built_in, low)
+    | inr known ↦ none-some known.0 (sym (fresh same.0) ∙ known.1)
+  ]
+  | inr grows ↦ longer held e (sym grows.1)
+])

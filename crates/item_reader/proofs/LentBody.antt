@@ -7,6 +7,7 @@ use Rattle.item_reader.specs.declared.item.Item.{Item as Given}
 use Rattle.item_reader.specs.declared.item.Item.TheVariants as given
 use Rattle.item_reader.specs.declared.item.ReadError.{ReadError}
 use Rattle.item_reader.specs.State.{structure_of, open_records, before_of}
+use Rattle.item_reader.specs.Given.{entry_in}
 use Rattle.item_reader.specs.Cursor.{body_in}
 use Rattle.item_reader.specs.Reader.{Reader, IsFrameEnd}
 
@@ -20,6 +21,8 @@ shown c last error = record {
   numbering = c.state.numbering;
   body = body_in last c.own.items c.state.segment;
   last = last;
+  entry = entry_in last c.kept c.state.dictionary;
+  instance = c.instance;
   looked = c.looked;
   error = error;
 }
@@ -64,6 +67,8 @@ lifted c last error r empty is ended some becomes =
       numbering = None;
       body = body i;
       last = last;
+      entry = entry_in last c.kept c.state.dictionary;
+      instance = c.instance;
       looked = c.looked;
       error = error;
     })

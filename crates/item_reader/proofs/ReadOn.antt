@@ -231,6 +231,8 @@ goes file c new last error item unclosed within gives = record {
   tells = gives.takes.tells;
   before = gives.takes.after;
   body = gives.body_is;
+  entry = gives.entry_is;
+  instance = gives.instance_is;
   frame = gives.frame;
 }
 

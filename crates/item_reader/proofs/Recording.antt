@@ -31,7 +31,9 @@ use Rattle.item_reader.specs.Reader.{IsFrameOf, Collects}
 use Rattle.item_reader.specs.Cursor.{Gives, GivesNext, body_in}
 use Rattle.item_reader.proofs.BodyHere.{structure-stands}
 use Rattle.item_reader.proofs.Collecting.{open-nodes}
+use Rattle.item_reader.specs.Given.{entry_in}
 use Rattle.item_reader.proofs.Giving.{tells-other, record-item, frame_end-item, other-taken, body-taken, gives-open}
+use Rattle.item_reader.proofs.Giving.{other-entry, other-instance}
 
 -- what the state answers is what is given, where the item is
 pub gives-answers : (h : Here) (result : Result Given ReadError) (new : Cursor) → Answers h result new.state
@@ -100,8 +102,8 @@ pub gives-record : (h : Here) (item : Given) (new : Cursor) (takes : Takes h ite
     (body : List ℕ) → is_target_kind (kind h) ≡ true → StandsIn h.order (place h) p body h.file
     → new.state.segment.order ≡ h.order → IsSound new.state → new.state.segment.pending ≡ []
     → new.state.numbering ≡ None → IsLooked h.order h.file new.state.at new.source.at new.looked
-    → ClosesBy item new.state.closed → Gives h item new
-gives-record h item new takes p body target stands order sound none frame looked closes =
+    → ClosesBy item new.state.closed → new.instance ≡ p.instance → Gives h item new
+gives-record h item new takes p body target stands order sound none frame looked closes instance =
     let other : takes.taken ≡ OtherItem (structure h) =
     other-taken h item new.state takes (kind h) refl (target-other (kind h) h target) in
     let plain = record-item h (structure h) item (kind h) target
@@ -115,6 +117,9 @@ gives-record h item new takes p body target stands order sound none frame looked
     ∙ node-last new.state.segment.nodes h.before.frame (structure h) joined
     ∙ ap (λ (s : Structure). s.body) (structure-stands h p body stands)
     ∙ body-taken h takes.taken p body other (target-apart (kind h) target) stands)
+    (ap (λ i. entry_in (Some i) new.kept new.state.dictionary) plain.3
+    ∙ other-entry takes.taken (structure h) other)
+    (other-instance h takes.taken p new.instance other stands.placed instance)
     (subst (λ i. IsFrameOf h.order (before_of new.state) new.state.segment × (new.state.numbering ≡ None)
     → Collects h i (before_of new.state) new.state.numbering new.state.segment) (sym plain.3) (λ f. f))
     order sound none frame looked (subst (λ i. ClosesBy i new.state.closed) plain.3 closes)
@@ -141,8 +146,8 @@ pub gives-frame_end : (h : Here) (item : Given) (new : Cursor) (takes : Takes h 
     → StandsIn h.order (place h) p s.segment.pending h.file → IsSound s → s.numbering ≡ None
     → EndsFrame s p new.state → IsKept s new.state
     → IsLooked h.order h.file new.state.at new.source.at new.looked → ClosesBy item new.state.closed
-    → Gives h item new
-gives-frame_end h item new takes p s is before order stands sound frame ends kept looked closes =
+    → new.instance ≡ p.instance → Gives h item new
+gives-frame_end h item new takes p s is before order stands sound frame ends kept looked closes instance =
     let other : takes.taken ≡ OtherItem (structure h) = other-taken h item new.state takes FrEndOfFrame is refl in
     let end = frame_end-item h (structure h) item
     (tells-other h takes.taken item FrEndOfFrame takes.tells other is) in
@@ -153,6 +158,9 @@ gives-frame_end h item new takes p s is before order stands sound frame ends kep
       body_is = ap (λ i. body_in (Some i) new.own.items new.state.segment) end.2
           ∙ ap (λ o. option_map_or (λ (r : Bodied). r.body) o []) ends.end_record
           ∙ body-taken h takes.taken p s.segment.pending other (ap is_table_kind is) stands;
+      entry_is = ap (λ i. entry_in (Some i) new.kept new.state.dictionary) end.2
+          ∙ other-entry takes.taken (structure h) other;
+      instance_is = other-instance h takes.taken p new.instance other stands.placed instance;
       frame = subst (λ i. Collects h i (before_of new.state) new.state.numbering new.state.segment) (sym end.2)
           (record {
             order_is = kept.order ∙ sym order;

@@ -1,6 +1,6 @@
 -- Where a reader stands in its file, as the code keeps it, and what taking the next item answers.
 use Rattle.std.specs.Prelude.{◌≡◌, ℕ, ◌+◌, true, false, List, [], length, Option, Some, None, Result, Ok, Err, ⊤}
-use Rattle.std.specs.Prelude.{slice_get, is_none, if◌then◌else◌}
+use Rattle.std.specs.Prelude.{slice_get, is_none, if◌then◌else◌, IsSome, IsSomeAnd}
 use Rattle.std.specs.Option.{option_map_or}
 use Rattle.frame_head.specs.declared.structure.Common.{Common}
 use Rattle.frame_outside.specs.Shelf.{Outside, Told, reading_at}
@@ -20,9 +20,9 @@ use Rattle.item_reader.specs.declared.structure.Placed.{Placed}
 use Rattle.item_reader.specs.Placed.{placed_at, IsStructureAt}
 use Rattle.item_reader.specs.Looked.{ReadsTo, IsLooked}
 use Rattle.item_reader.specs.State.{IsSound, before_of}
-use Rattle.item_reader.specs.Given.{body_after}
+use Rattle.item_reader.specs.Given.{body_after, entry_given, instance_given, entry_in}
 use Rattle.item_reader.specs.Judged.{Takes}
-use Rattle.item_reader.specs.Reader.{Faults, Collects, IsFileEnd}
+use Rattle.item_reader.specs.Reader.{Faults, Collects, IsFileEnd, IsEntry}
 
 -- the body that is lent after an item: a record's stands in the segment, that of a table or of the file's end apart
 abbrev pub body_in : Option Given → List ℕ → Collected → List ℕ
@@ -34,14 +34,15 @@ body_in (Some (given.FrameEnd at class)) own segment = option_map_or (λ (r : Bo
 body_in (Some (given.Table at class length)) own segment = own
 body_in (Some (given.FileEnd at class length seek)) own segment = own
 
--- What a reader keeps while there was no error: it fits together, no body is pending, and the source stands where the
--- look beyond the place ends.
+-- What a reader keeps while there was no error: it fits together, no body is pending, the source stands where the look
+-- beyond the place ends, and an entry is lent where the last item is one.
 pub record Keeps (c : Cursor) (last : Option Given) : Type 0 where
   pub sound : IsSound c.state
   pub pending : c.state.segment.pending ≡ []
   pub read : ReadsTo c.state.at c.looked c.source.at
   pub closed : c.state.closed ≡ true → (item : Given) × (last ≡ Some item) × IsFileEnd item
   pub unclosed : (item : Given) → last ≡ Some item → IsFileEnd item → c.state.closed ≡ true
+  pub entry : IsSomeAnd last IsEntry → IsSome (entry_in last c.kept c.state.dictionary)
 
 -- The cursor stands in its file, and has looked at what stands at the place reached.
 pub record IsReady (outside : Outside) (c : Cursor) : Type 0 where
@@ -79,13 +80,16 @@ pub record HasPassed (outside : Outside) (c : Cursor) (p : Placed) : Type 0 wher
   pub place : c.source.at ≡ c.state.at + 14
   pub looked : c.looked ≡ Nothing
   pub here : IsStructureAt c.state.at p
+  pub instance : c.instance ≡ p.instance
   pub head : InFile outside c (λ h. IsHeadOf h p)
 
--- The item that stood there was given: it was taken, its body is lent, the frame is collected, what stands after it is
--- as it was looked at, and the end of the file is at the file's end.
+-- The item that stood there was given: it was taken, its body is lent, its entry and its instance are told, the frame is
+-- collected, what stands after it is as it was looked at, and the end of the file is at the file's end.
 pub record Gives (h : Here) (item : Given) (new : Cursor) : Type 0 where
   pub takes : Takes h item new.state
   pub body_is : body_in (Some item) new.own.items new.state.segment ≡ body_after h takes.taken
+  pub entry_is : entry_in (Some item) new.kept new.state.dictionary ≡ entry_given takes.taken
+  pub instance_is : new.instance ≡ instance_given takes.taken
   pub frame : Collects h item (before_of new.state) new.state.numbering new.state.segment
   pub looked : IsLooked h.order h.file new.state.at new.source.at new.looked
   pub end : new.state.closed ≡ true → new.state.at ≡ length h.file

@@ -1,5 +1,8 @@
--- What a reader gives of an item, and the body that it lends after it.
+-- What a reader gives of an item, and the body and the entry that it lends after it.
 use Rattle.std.specs.Prelude.{◌≡◌, ◌≢◌, ◌↔◌, ℕ, IsTrue, List, [], length, if◌then◌else◌, ◌&&◌, is_none, codes}
+use Rattle.std.specs.Prelude.{true, false, nat_lt, Option, Some, None}
+use Rattle.dictionary.specs.declared.entries.Entry.{Entry}
+use Rattle.dictionary.specs.Dictionary.{entry_of}
 use Rattle.item_reader.specs.declared.item.Item.{Item as Given}
 use Rattle.item_reader.specs.declared.item.Item.TheVariants as given
 use Rattle.file_grammar.specs.declared.kind.Kind.{Kind}
@@ -33,3 +36,24 @@ Tells h (OtherItem s) item = TellsKind (kind h) h s item
 abbrev pub body_after : Here → Item → List ℕ
 body_after h (EntryItem head run entry) = []
 body_after h (OtherItem s) = if is_table_kind (kind h) && is_none (layout_in (held h) s.class) then [] else s.body
+
+-- the entry that an item is, as it was read
+abbrev pub entry_given : Item → Option Entry
+entry_given (EntryItem head run entry) = Some entry
+entry_given (OtherItem s) = None
+
+-- the instance of its structure, 0 of an entry
+abbrev pub instance_given : Item → ℕ
+instance_given (EntryItem head run entry) = 0
+instance_given (OtherItem s) = s.instance
+
+-- the entry of a class that a dictionary holds, none of a class above 255
+abbrev pub entry_within : List Entry → ℕ → Option Entry
+entry_within held class = if nat_lt 255 class then None else entry_of held class
+
+-- the entry that is lent after an item: one that changed the dictionary stands in it, any other is kept apart
+abbrev pub entry_in : Option Given → Option Entry → List Entry → Option Entry
+entry_in None kept held = None
+entry_in (Some (given.Entry at class true)) kept held = entry_within held class
+entry_in (Some (given.Entry at class false)) kept held = kept
+entry_in (Some item) kept held = None

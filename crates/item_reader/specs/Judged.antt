@@ -2,7 +2,7 @@
 -- order of their numbers.
 use Rattle.std.specs.Prelude.{◌≡◌, ◌≢◌, ◌↔◌, ℕ, ◌+◌, ◌≤◌, ⊤, true, false, IsTrue, Bool, ◌||◌, List, [], ◌∷◌}
 use Rattle.std.specs.Prelude.{length, take}
-use Rattle.std.specs.Prelude.{sum_by, Some, None, Result, Ok, Err}
+use Rattle.std.specs.Prelude.{sum_by, Option, Some, None, Result, Ok, Err}
 use Rattle.dictionary.specs.declared.entries.Entry.{Entry}
 use Rattle.dictionary.specs.Dictionary.{step}
 use Rattle.scalar_types.specs.declared.Order.{Order}
@@ -142,6 +142,10 @@ pub record Holds (old : State) (entry : Entry) (changed : Bool) (new : State) : 
   pub changed_is : IsTrue changed ↔ (new.dictionary ≢ old.dictionary)
   pub plans : (class : ℕ) → plan_of new.plans class ≡ layout_in new.dictionary class
   pub rest : new ≡ record old { dictionary = new.dictionary; plans = new.plans }
+
+-- what is kept beside a dictionary that is given an entry: the entry, where that does not change the dictionary
+abbrev pub IsBeside : List Entry → Entry → Option Entry → Type 0
+IsBeside held entry kept = step held entry ≡ Ok held → kept ≡ Some entry
 
 -- what holding it answers at a place where it stands
 abbrev pub AnswersHolding : Here → Result Bool ReadError → Type 0

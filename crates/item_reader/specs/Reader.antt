@@ -3,6 +3,7 @@ use Rattle.std.specs.Prelude.{◌≡◌, ℕ, ◌+◌, ◌≤◌, ◌⊎◌, tru
 use Rattle.std.specs.Prelude.{option_map, length}
 use Rattle.scalar_types.specs.declared.Order.{Order}
 use Rattle.frame_outside.specs.Shelf.{Outside, Told, reading_at}
+use Rattle.dictionary.specs.declared.entries.Entry.{Entry}
 use Rattle.layout_plan.specs.Plans.{plan_of}
 use Rattle.rooted_graph.specs.BreadthOrder.{IsBreadthOrder}
 use Rattle.link_graph.specs.Collected.{Collected}
@@ -21,11 +22,12 @@ use Rattle.item_reader.specs.declared.item.ReadError.{ReadError}
 use Rattle.item_reader.specs.declared.looked.Looked.{Looked}
 use Rattle.item_reader.specs.Looked.{IsLooked, look}
 use Rattle.item_reader.specs.State.{bodied_of}
-use Rattle.item_reader.specs.Given.{Tells, body_after}
+use Rattle.item_reader.specs.Given.{Tells, body_after, entry_given, instance_given}
 
 -- What callers know of a reader: where it stands in the file, the byte order, what stands before the place that it has
--- reached, the frame collected and the order of one that has ended, the last body, the last item, what was looked at
--- beyond it, and the error once there was one.
+-- reached, the frame collected and the order of one that has ended, the last body, the last item, the entry that it is,
+-- as it was read, the instance of its structure, 0 of an entry or before the first item, what was looked at beyond it,
+-- and the error once there was one.
 pub record Reader : Type 0 where
   pub position : Position
   pub order : Order
@@ -34,6 +36,8 @@ pub record Reader : Type 0 where
   pub numbering : Option (List ℕ)
   pub body : List ℕ
   pub last : Option Given
+  pub entry : Option Entry
+  pub instance : ℕ
   pub looked : Looked
   pub error : Option ReadError
 
@@ -49,6 +53,11 @@ IsFrameEnd item = ⊥
 abbrev pub IsFileEnd : Given → Type 0
 IsFileEnd (given.FileEnd at class length seek) = ⊤
 IsFileEnd item = ⊥
+
+-- the item is an entry
+abbrev pub IsEntry : Given → Type 0
+IsEntry (given.Entry at class changed) = ⊤
+IsEntry item = ⊥
 
 -- The last of the items that a reader has given, as it was given.
 pub record HasLast (file : List ℕ) (order : Order) (items : List Item) (given : Given) : Type 0 where
@@ -130,6 +139,8 @@ pub record Goes (file : List ℕ) (old : Reader) (item : Given) (new : Reader) :
   pub tells : Tells (here_of file old) taken item
   pub before : new.before ≡ after old.order old.before taken
   pub body : new.body ≡ body_after (here_of file old) taken
+  pub entry : new.entry ≡ entry_given taken
+  pub instance : new.instance ≡ instance_given taken
   pub frame : Collects (here_of file old) item new.before new.numbering new.segment
 
 -- ---- what was drawn

@@ -2,7 +2,7 @@
 //! asked for, judged, and taken.
 
 ghost use Rattle.std.specs.Prelude.{◌≡◌, ◌+◌, ◌-◌, ◌<◌, ◌≤◌, ◌⊎◌, ℕ, true, false, None, Some, Err, length};
-ghost use Rattle.std.specs.Prelude.{IfOk, OnOk, OnErr, IsOk};
+ghost use Rattle.std.specs.Prelude.{IfOk, OnOk, OnErr, IsOk, IsSome};
 ghost use Rattle.frame_outside.specs.Counts.{Rose};
 ghost use Rattle.structure_source.specs.declared.source.Head.TheVariants as head;
 ghost use Rattle.structure_source.specs.Source.{Stands, GoesOn, IsHead, drawn};
@@ -17,11 +17,14 @@ ghost use Rattle.item_reader.specs.Judged.{InEachFile, IsKept, ClosesBy, body_re
 ghost use Rattle.item_reader.specs.Entries.{Begins};
 ghost use Rattle.item_reader.specs.State.{IsSound, before_of};
 ghost use Rattle.item_reader.specs.Cursor.{IsReady, HasPassed, InFile, GivesNext, table_body};
+ghost use Rattle.item_reader.specs.Given.{entry_in};
+ghost use Rattle.item_reader.specs.Reader.{IsEntry};
 
 use crate::entries::{Run, begun_entry, read_run};
 use crate::item::{Item, ReadError};
 use crate::looked::Looked;
 use crate::state::State;
+use crate::steps::kept_beside;
 use crate::structure::{Placed, placed_at};
 use dictionary::Entry;
 use file_grammar::{Fault, Kind, Reason, size_reason};
@@ -38,6 +41,10 @@ pub struct Cursor {
     pub own: Vec<u8>,
     /// What was looked at beyond the place reached.
     pub looked: Looked,
+    /// The last entry, where it did not change the dictionary.
+    pub kept: Option<Entry>,
+    /// The instance of the last structure, 0 of an entry.
+    pub instance: u32,
 }
 
 impl Cursor {
@@ -49,6 +56,8 @@ impl Cursor {
         ensures moved { OnOk result (self.old.state.at < self.new.state.at) }
         ensures read { OnOk result (ReadsTo self.new.state.at self.new.looked self.new.source.at) }
         ensures closed { IfOk result (λ item. ClosesBy item self.new.state.closed) }
+        ensures lends { IfOk result (λ item. IsEntry item
+            → IsSome (entry_in (Some item) self.new.kept self.new.state.dictionary)) }
         ensures device { result ≡ Err ReadError.Device
             → Rose (S.outside shelf.old).faults (S.outside shelf.new).faults }
         ensures order { self.new.state.segment.order ≡ self.old.state.segment.order }
@@ -62,7 +71,9 @@ impl Cursor {
         if let Some(reason) = size_reason(common.length) {
             return Err(self.state.fault(reason).into());
         }
-        self.take(shelf, placed_at(self.state.at, common))
+        let placed = placed_at(self.state.at, common);
+        self.instance = placed.instance;
+        self.take(shelf, placed)
     }
 
     /// Takes the item that begins with the structure at the place reached.
@@ -73,6 +84,8 @@ impl Cursor {
         ensures moved { OnOk result (self.old.state.at < self.new.state.at) }
         ensures read { OnOk result (ReadsTo self.new.state.at self.new.looked self.new.source.at) }
         ensures closed { IfOk result (λ item. ClosesBy item self.new.state.closed) }
+        ensures lends { IfOk result (λ item. IsEntry item
+            → IsSome (entry_in (Some item) self.new.kept self.new.state.dictionary)) }
         ensures device { result ≡ Err ReadError.Device
             → Rose (S.outside shelf.old).faults (S.outside shelf.new).faults }
         ensures order { self.new.state.segment.order ≡ self.old.state.segment.order }
@@ -134,6 +147,8 @@ impl Cursor {
         ensures moved { OnOk result (self.old.state.at < self.new.state.at) }
         ensures read { OnOk result (ReadsTo self.new.state.at self.new.looked self.new.source.at) }
         ensures closed { IfOk result (λ item. ClosesBy item self.new.state.closed) }
+        ensures lends { IfOk result (λ item. IsEntry item
+            → IsSome (entry_in (Some item) self.new.kept self.new.state.dictionary)) }
         ensures device { result ≡ Err ReadError.Device
             → Rose (S.outside shelf.old).faults (S.outside shelf.new).faults }
         ensures order { self.new.state.segment.order ≡ self.old.state.segment.order }
@@ -160,6 +175,8 @@ impl Cursor {
         )?;
         entry.elements = elements;
         self.looked = looked;
+        self.kept = kept_beside(&self.state.dictionary, &entry)?;
+        self.instance = 0;
         self.state.take_entry(head, entry, end)
     }
 
@@ -217,6 +234,7 @@ impl Cursor {
         ensures moved { OnOk result (self.old.state.at < self.new.state.at) }
         ensures read { OnOk result (ReadsTo self.new.state.at self.new.looked self.new.source.at) }
         ensures closed { IfOk result (λ item. ClosesBy item self.new.state.closed) }
+        ensures no_entry { IfOk result (λ item. IsEntry item → ⊥) }
         ensures device { result ≡ Err ReadError.Device
             → Rose (S.outside shelf.old).faults (S.outside shelf.new).faults }
         ensures order { self.new.state.segment.order ≡ self.old.state.segment.order }
@@ -242,6 +260,7 @@ impl Cursor {
         ensures moved { OnOk result (self.old.state.at < self.new.state.at) }
         ensures read { OnOk result (ReadsTo self.new.state.at self.new.looked self.new.source.at) }
         ensures closed { IfOk result (λ item. ClosesBy item self.new.state.closed) }
+        ensures no_entry { IfOk result (λ item. IsEntry item → ⊥) }
         ensures device { result ≡ Err ReadError.Device
             → Rose (S.outside shelf.old).faults (S.outside shelf.new).faults }
         ensures order { self.new.state.segment.order ≡ self.old.state.segment.order }
@@ -268,6 +287,7 @@ impl Cursor {
         ensures moved { OnOk result (self.old.state.at < self.new.state.at) }
         ensures read { OnOk result (ReadsTo self.new.state.at self.new.looked self.new.source.at) }
         ensures closed { IfOk result (λ item. ClosesBy item self.new.state.closed) }
+        ensures no_entry { IfOk result (λ item. IsEntry item → ⊥) }
         ensures device { result ≡ Err ReadError.Device
             → Rose (S.outside shelf.old).faults (S.outside shelf.new).faults }
         ensures order { self.new.state.segment.order ≡ self.old.state.segment.order }
@@ -297,6 +317,7 @@ impl Cursor {
         ensures moved { OnOk result (self.old.state.at < self.new.state.at) }
         ensures read { OnOk result (ReadsTo self.new.state.at self.new.looked self.new.source.at) }
         ensures closed { IfOk result (λ item. ClosesBy item self.new.state.closed) }
+        ensures no_entry { IfOk result (λ item. IsEntry item → ⊥) }
         ensures device { result ≡ Err ReadError.Device
             → Rose (S.outside shelf.old).faults (S.outside shelf.new).faults }
         ensures order { self.new.state.segment.order ≡ self.old.state.segment.order }

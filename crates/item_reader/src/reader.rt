@@ -1,7 +1,7 @@
 //! The reader of a file's items.
 
 ghost use Rattle.std.specs.Prelude.{◌≡◌, ◌≢◌, ◌+◌, ◌<◌, ◌≤◌, ℕ, [], false, true, None, Some, Ok, Err, IsSome};
-ghost use Rattle.std.specs.Prelude.{All, IfOk, OnOk, IfErr, OnErr, if◌then◌else◌};
+ghost use Rattle.std.specs.Prelude.{All, IfOk, OnOk, IfErr, OnErr, if◌then◌else◌, ◌↔◌, IsSomeAnd};
 ghost use Rattle.std.specs.Option.{option_copied};
 ghost use Rattle.frame_outside.specs.Counts.{Rose};
 ghost use Rattle.frame_outside.specs.Shelf.{Told, IsSource, reading_at};
@@ -15,14 +15,15 @@ ghost use Rattle.file_grammar.specs.Structure.{file_limit};
 ghost use Rattle.file_grammar.specs.Item.{nothing_yet};
 ghost use Rattle.file_grammar.specs.Fault.{IsFirstFault, IsHeaderFault};
 ghost use Rattle.item_reader.specs.Looked.{IsWithinLook};
-ghost use Rattle.item_reader.specs.Reader.{file_of, Reads, Goes, HasEnded, IsFileEnd, IsFrameEnd, Faults};
+ghost use Rattle.item_reader.specs.Reader.{file_of, Reads, Goes, HasEnded, IsFileEnd, IsFrameEnd, IsEntry, Faults};
 
 use crate::cursor::Cursor;
 use crate::item::{Item, ReadError};
 use crate::looked::Looked;
 use crate::opening::read_order;
 use crate::state::State;
-use dictionary::Dictionary;
+use crate::steps::held;
+use dictionary::{Dictionary, Entry};
 use file_grammar::Fault;
 use frame_outside::Shelf;
 use layout_plan::Plans;
@@ -36,8 +37,8 @@ use structure_source::StructureSource;
 /// A reader of the items of one file, from one source slot of a shelf.
 ///
 /// It gives the items of the grammar one after another (LIGO-T970130, version 8: the structures in the order
-/// of the file), up to the end of the file, or else the file's first fault. It holds the dictionary and one
-/// frame, and reads at most 65,536 bytes ahead.
+/// of the file), up to the end of the file, or else the file's first fault. It holds the dictionary, one
+/// frame, and the last entry that did not change the dictionary, and reads at most 65,536 bytes ahead.
 #[derive(Drop)]
 pub struct ItemReader {
     cursor: Cursor,
@@ -48,6 +49,7 @@ pub struct ItemReader {
 impl Model for ItemReader {
     ghost use Rattle.std.specs.Prelude.{◌≡◌, None};
     ghost use Rattle.item_reader.specs.State.{before_of};
+    ghost use Rattle.item_reader.specs.Given.{entry_in};
     ghost use Rattle.item_reader.specs.Reader.{Reader};
     ghost use Rattle.item_reader.specs.Cursor.{Keeps, body_in};
 
@@ -61,6 +63,8 @@ impl Model for ItemReader {
       numbering = r.cursor.state.numbering;
       body = body_in r.last r.cursor.own.items r.cursor.state.segment;
       last = r.last;
+      entry = entry_in r.last r.cursor.kept r.cursor.state.dictionary;
+      instance = r.cursor.instance;
       looked = r.cursor.looked;
       error = r.error;
     } };
@@ -82,7 +86,7 @@ impl ItemReader {
         ensures reads { IfOk result (λ reader. Reads (S.outside shelf.new) reader) }
         ensures slot { IfOk result (λ reader. reader.position.slot ≡ slot) }
         ensures begun { IfOk result (λ reader. (reader.before ≡ nothing_yet) × (reader.body ≡ [])
-            × (reader.last ≡ None) × (reader.error ≡ None)) }
+            × (reader.last ≡ None) × (reader.error ≡ None) × (reader.entry ≡ None) × (reader.instance ≡ 0)) }
         ensures frame { IfOk result (λ reader. (reader.segment ≡ nothing_in reader.order)
             × (reader.numbering ≡ None)) }
         ensures fault { (fault : Fault) → result ≡ Err (ReadError.Fault fault)
@@ -100,6 +104,8 @@ impl ItemReader {
             state: State::new(alloc, order)?,
             own: Vec::new(alloc),
             looked: Looked::Nothing,
+            kept: None,
+            instance: 0,
         };
         Ok(ItemReader {
             cursor,
@@ -271,5 +277,32 @@ impl ItemReader {
             Some(Item::Table { .. } | Item::FileEnd { .. }) => self.cursor.own.as_slice(),
             _ => &[],
         }
+    }
+
+    /// The entry that the last item is, as it was read, with its own texts and comments: also one that was
+    /// repeated, or is of class 1 or 2. None before the first item, and after any item that is no entry. Takes
+    /// no memory.
+    pub fn entry(&self) -> Option<&Entry>
+        ensures entry { option_copied result ≡ self.now.entry }
+        ensures kind { self.now.error ≡ None → (IsSome result ↔ IsSomeAnd self.now.last IsEntry) }
+    {
+        match self.last {
+            Some(
+                Item::Entry {
+                    class,
+                    changed: true,
+                    ..
+                },
+            ) => held(&self.cursor.state.dictionary, class),
+            Some(Item::Entry { .. }) => self.cursor.kept.as_ref(),
+            _ => None,
+        }
+    }
+
+    /// The instance of the last item's structure. 0 before the first item, and after an entry.
+    pub fn instance(&self) -> u32
+        ensures { result ≡ self.now.instance }
+    {
+        self.cursor.instance
     }
 }

@@ -1,7 +1,7 @@
 //! Items taken one after another: each is judged, and then stands before the next place.
 
 ghost use Rattle.std.specs.Prelude.{◌≡◌, ◌≢◌, ◌+◌, ◌≤◌, ℕ, List, [], false, true, length, max, IfOk, OnOk, Ok};
-ghost use Rattle.std.specs.Prelude.{Err, None, Some};
+ghost use Rattle.std.specs.Prelude.{Err, None, Option, Some};
 ghost use Rattle.std.specs.Option.{option_copied, option_map_or};
 ghost use Rattle.dictionary.specs.Dictionary.{entry_of, IsDictionary};
 ghost use Rattle.dictionary.specs.Same.{AreRead};
@@ -14,7 +14,9 @@ ghost use Rattle.item_reader.specs.Placed.{IsStructureAt, StandsIn};
 ghost use Rattle.item_reader.specs.State.{IsSound, here_in};
 ghost use Rattle.item_reader.specs.Judged.{InEachFile, Answers, AnswersHolding, Holds, IsKept, EndsFrame};
 ghost use Rattle.item_reader.specs.Judged.{DescribesEntry, body_reasons, table_reasons, IsOpenStill};
-ghost use Rattle.item_reader.specs.Judged.{ClosesBy, node_by};
+ghost use Rattle.item_reader.specs.Judged.{ClosesBy, node_by, IsBeside};
+ghost use Rattle.item_reader.specs.Given.{entry_in, entry_within};
+ghost use Rattle.item_reader.specs.Reader.{IsEntry};
 
 use crate::item::{Item, ReadError};
 use crate::roles::Classes;
@@ -23,7 +25,7 @@ use crate::structure::Placed;
 use dictionary::{AddFault, Entry};
 use file_grammar::{Kind, Reason};
 use link_graph::{Node, SegmentFault};
-use std::alloc::Global;
+use std::alloc::{AllocError, Global};
 
 impl State {
     /// Takes an FrSH with the run of FrSEs after it, which end at `end`. Of an entry with more elements than
@@ -46,6 +48,9 @@ impl State {
         ensures kept { OnOk result (self.old.segment.pending ≡ [] → IsKept self.old self.new) }
         ensures frame { OnOk result (IsOpenStill self.old self.new) }
         ensures order { self.new.segment.order ≡ self.old.segment.order }
+        ensures short { OnOk result (length entry.elements ≤ 4096) }
+        ensures lent { IfOk result (λ item. (kept : Option Entry) → IsBeside self.old.dictionary entry kept
+            → entry_in (Some item) kept self.new.dictionary ≡ Some entry) }
     {
         let class = entry.class;
         let changed = self.hold(head, entry)?;
@@ -117,6 +122,7 @@ impl State {
         ensures closed { ClosesBy result self.new.closed }
         ensures kept { self.old.segment.pending ≡ [] → IsKept self.old self.new }
         ensures frame { IsOpenStill self.old self.new }
+        ensures no_entry { IsEntry result → ⊥ }
     {
         self.table = true;
         self.at += table.length;
@@ -142,6 +148,7 @@ impl State {
         ensures kept { OnOk result (self.old.segment.pending ≡ [] → IsKept self.old self.new) }
         ensures frame { OnOk result (IsOpenStill self.old self.new) }
         ensures order { self.new.segment.order ≡ self.old.segment.order }
+        ensures no_entry { IfOk result (λ item. IsEntry item → ⊥) }
     {
         self.read(end, body)?;
         if let Some(fault) = self.closing_fault(end, body) {
@@ -174,6 +181,7 @@ impl State {
         ensures kept { OnOk result (IsKept self.old self.new) }
         ensures frame { OnOk result (EndsFrame self.old placed self.new) }
         ensures order { self.new.segment.order ≡ self.old.segment.order }
+        ensures no_entry { IfOk result (λ item. IsEntry item → ⊥) }
     {
         self.weigh(placed)?;
         let numbering = self.close_frame(alloc, placed)?;
@@ -208,6 +216,7 @@ impl State {
         ensures kept { OnOk result (IsKept self.old self.new) }
         ensures frame { OnOk result (self.new.numbering ≡ None) }
         ensures order { self.new.segment.order ≡ self.old.segment.order }
+        ensures no_entry { IfOk result (λ item. IsEntry item → ⊥) }
     {
         let weight = self.weigh(placed)?;
         // Judged before the record joins the frame, and told after InstanceTwice.
@@ -248,7 +257,8 @@ fn node(dictionary: &Classes, placed: Placed) -> Node
 }
 
 /// The entry held of a class.
-fn held(dictionary: &Classes, class: u16) -> Option<&Entry>
+pub fn held(dictionary: &Classes, class: u16) -> Option<&Entry>
+    ensures entry { option_copied result ≡ entry_within dictionary.now class }
     ensures found { class ≤ 255 → option_copied result ≡ entry_of dictionary.now class }
     ensures sound { class ≤ 255 → IsDictionary dictionary.now }
 {
@@ -256,4 +266,15 @@ fn held(dictionary: &Classes, class: u16) -> Option<&Entry>
         return None;
     }
     dictionary.get(class as u8)
+}
+
+/// A copy of an entry that will not change the dictionary: its class is built in, or held already.
+pub fn kept_beside(dictionary: &Classes, entry: &Entry) -> Result<Option<Entry>, AllocError>
+    ensures { IfOk result (λ kept. IsBeside dictionary.now entry.now kept) }
+{
+    if entry.class < 3 || held(dictionary, entry.class).is_some() {
+        Ok(Some(entry.copy()?))
+    } else {
+        Ok(None)
+    }
 }

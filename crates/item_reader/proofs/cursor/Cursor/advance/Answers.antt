@@ -40,6 +40,7 @@ take-requires g c =
     let old : Cursor = c.args.self.now in
     let opened : Cursor = record old { state = c.open_frame.new.self } in
     let rest = c.in_ok-common.ensures.rest in
+    let ready : Cursor = record c.head.new.self { instance = c.placed_at-placed.result.instance } in
     let state_is : c.head.new.self.state ≡ c.open_frame.new.self = ap (λ (x : Cursor). x.state) rest in
     let size = size-none c.in_ok-common.common.length (sym c.size_reason.ensures ∙ c.in_default.is) in
     record {
@@ -52,16 +53,17 @@ take-requires g c =
       place = c.in_ok-common.ensures.place ∙ ap (λ (s : State). s.at + 14) (sym state_is);
       looked = c.in_ok-common.ensures.looked;
       here = record {
-        place = ap (λ (p : Placed). p.at) c.placed_at.ensures;
-        head = omega (arith, size.0, ap (λ (p : Placed). p.length) c.placed_at.ensures);
-        small = omega (arith, size.1, ap (λ (p : Placed). p.length) c.placed_at.ensures);
+        place = ap (λ (p : Placed). p.at) c.placed_at-placed.ensures;
+        head = omega (arith, size.0, ap (λ (p : Placed). p.length) c.placed_at-placed.ensures);
+        small = omega (arith, size.1, ap (λ (p : Placed). p.length) c.placed_at-placed.ensures);
       };
-      head = in-file-later outside (g.S.Shelf.outside c.head.new.shelf) opened c.head.new.self
-          (λ h. IsHeadOf h c.placed_at.result) c.in_ok-common.ensures.on
+      instance = refl;
+      head = in-file-later outside (g.S.Shelf.outside c.head.new.shelf) opened ready
+          (λ h. IsHeadOf h c.placed_at-placed.result) c.in_ok-common.ensures.on
           (ap (λ (s : State). s.segment.order) state_is) (ap before_of state_is)
           (λ reading seen. record {
             common = c.in_ok-common.common;
-            placed = c.placed_at.ensures ∙ ap (λ (s : State). placed_at s.at c.in_ok-common.common) state_is;
+            placed = c.placed_at-placed.ensures ∙ ap (λ (s : State). placed_at s.at c.in_ok-common.common) state_is;
             head = c.in_ok-common.ensures.head reading seen;
           });
     }

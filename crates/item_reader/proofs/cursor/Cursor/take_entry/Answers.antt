@@ -1,5 +1,5 @@
 -- An entry: its FrSH, and its run.
-use Rattle.std.proofs.Common.{◌≡◌, ℕ, List, Some, None, ap, ◌∙◌, subst}
+use Rattle.std.proofs.Common.{◌≡◌, ℕ, List, Some, None, refl, ap, ◌∙◌, subst}
 use Rattle.structure_source.specs.Source.{drawn}
 use Rattle.structure_source.proofs.Going.{goes-more}
 use Rattle.dictionary.specs.declared.entries.Entry.{Entry}
@@ -14,6 +14,7 @@ use Rattle.item_reader.specs.Judged.{InEachFile, DescribesEntry, Answers, body_r
 use Rattle.item_reader.proofs.Located.{kind-here}
 use Rattle.item_reader.proofs.Giving.{refused-in, err-said, err-within}
 use Rattle.item_reader.proofs.Entering.{told-later, describes-entry, entry-ahead, gives-entry}
+use Rattle.item_reader.proofs.Entering.{lent-beside, lends-one}
 use Rattle.item_reader.proofs.cursor.Cursor.take_entry.Goals as goal
 
 pub returns-in_err-bring_own-clause-answers : goal.returns-in_err-bring_own-clause-answers
@@ -51,6 +52,20 @@ returns-in_err-elements-clause-ahead g c =
     c.in_ok-bring_own.ensures.on c.in_ok-bring_own.ensures.stands c.in_ok-bring_own.ensures.place
     c.in_ok-bring_own.ensures.body c.requires.kind c.in_ok-entry.ensures.begins c.read_run.ensures.bounded)
 
+pub returns-in_err-self-clause-on : goal.returns-in_err-self-clause-on
+returns-in_err-self-clause-on g c =
+    goes-more _ _ _ _ _ _ c.in_ok-bring_own.ensures.on c.read_run.ensures.on
+
+pub returns-in_err-self-clause-ahead : goal.returns-in_err-self-clause-ahead
+returns-in_err-self-clause-ahead g c =
+    err-said c.from_residual-in_err-self.result _
+    (entry-ahead (g.S.Shelf.outside c.args.shelf.now) (g.S.Shelf.outside c.bring_own.new.shelf)
+    c.args.self.now c.args.head c.bring_own.new.self.own.items c.bring_own.new.self.source c.in_ok-entry.entry
+    (drawn c.read_run.new.source) c.bring_own.new.self.state c.order-order.result
+    (ap (λ (x : Cursor). x.state) c.in_ok-bring_own.ensures.rest) c.order-order.ensures
+    c.in_ok-bring_own.ensures.on c.in_ok-bring_own.ensures.stands c.in_ok-bring_own.ensures.place
+    c.in_ok-bring_own.ensures.body c.requires.kind c.in_ok-entry.ensures.begins c.read_run.ensures.bounded)
+
 pub returns-clause-answers : goal.returns-clause-answers
 returns-clause-answers g c = λ reading told.
     let s = c.args.self.now.state in
@@ -77,21 +92,27 @@ returns-clause-answers g c = λ reading told.
     c.in_ok-bring_own.ensures.on c.in_ok-bring_own.ensures.stands c.in_ok-elements.ensures.run reading told in
     let runs = subst (λ at. IsRun s.segment.order reading.opened at run read) c.in_ok-bring_own.ensures.place
     (subst (λ order. IsRun order reading.opened middle.at run read) order_is there) in
+    let d = describes-entry h p body c.in_ok-entry.entry run read stands begins runs in
     let answers = subst (λ (x : State). (file body : List ℕ) → StandsIn x.segment.order x.at p body file
     → first_of body_reasons (here_in x file) ≡ None → DescribesEntry x.segment.order file x.at entry run.end
     → Answers (here_in x file) c.take_entry.result c.take_entry.new.self) state_is
     c.take_entry.ensures.answers reading.opened body stands good
-    (describes-entry h p body c.in_ok-entry.entry run read stands begins runs) in
+    d in
     gives-entry h c.bring_own.new.self.state run.end c.take_entry.result (record {
       source = c.read_run.new.source;
       state = c.take_entry.new.self;
       own = c.read_run.new.own;
       looked = run.looked;
-    }) is (ap (λ (x : State). x.segment.order) state_is)
+      kept = c.in_ok-self.field-0;
+      instance = 0;
+    }) entry is (ap (λ (x : State). x.segment.order) state_is)
     (ap (λ (x : State). x.segment.pending) state_is ∙ c.requires.passed.pending)
     (ap (λ (x : State). x.numbering) state_is ∙ c.requires.passed.frame) runs.looked answers
     c.take_entry.ensures.moved c.take_entry.ensures.closed c.take_entry.ensures.kept
-    c.take_entry.ensures.frame
+    c.take_entry.ensures.frame d c.take_entry.ensures.short
+    (lent-beside c.take_entry.result entry c.bring_own.new.self.state.dictionary c.in_ok-self.field-0
+    c.take_entry.new.self.dictionary c.take_entry.ensures.lent c.in_ok-self.ensures)
+    refl
 
 pub returns-clause-on : goal.returns-clause-on
 returns-clause-on g c =
@@ -106,3 +127,10 @@ returns-clause-ahead g c =
     (ap (λ (x : Cursor). x.state) c.in_ok-bring_own.ensures.rest) c.order-order.ensures
     c.in_ok-bring_own.ensures.on c.in_ok-bring_own.ensures.stands c.in_ok-bring_own.ensures.place
     c.in_ok-bring_own.ensures.body c.requires.kind c.in_ok-entry.ensures.begins c.read_run.ensures.bounded)
+
+pub returns-clause-lends : goal.returns-clause-lends
+returns-clause-lends g c =
+    let entry : Entry = record c.in_ok-entry.entry { elements = c.in_ok-elements.field-0.elements } in
+    lends-one c.take_entry.result entry c.in_ok-self.field-0 c.take_entry.new.self.dictionary
+    (lent-beside c.take_entry.result entry c.bring_own.new.self.state.dictionary c.in_ok-self.field-0
+    c.take_entry.new.self.dictionary c.take_entry.ensures.lent c.in_ok-self.ensures)

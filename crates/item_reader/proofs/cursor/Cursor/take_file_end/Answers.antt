@@ -113,3 +113,4 @@ returns-clause-answers g c = λ reading told.
     (ap (λ (x : Cursor). x.looked) c.in_ok-bring_own.ensures.rest ∙ c.requires.passed.looked)
     (last.0 ∙ there))
     (sym there ∙ last.1)
+    (ap (λ (x : Cursor). x.instance) c.in_ok-bring_own.ensures.rest ∙ c.requires.passed.instance)

@@ -59,4 +59,5 @@ returns-clause-answers g c = λ reading told.
     (c.in_ok-bring_record.ensures.place
     ∙ sym (on-ok c.take_frame_end.result item _ is c.take_frame_end.ensures.moved
     ∙ ap (λ (x : Cursor). x.state.at + p.length) rest)))
-    (rw is at c.take_frame_end.ensures.closed))
+    (rw is at c.take_frame_end.ensures.closed)
+    (ap (λ (x : Cursor). x.instance) rest ∙ c.requires.passed.instance))

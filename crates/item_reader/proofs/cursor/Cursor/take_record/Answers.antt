@@ -58,4 +58,5 @@ returns-clause-answers g c = λ reading told.
     (c.in_ok-bring_record.ensures.place
     ∙ sym (on-ok c.take_record.result item _ is c.take_record.ensures.moved
     ∙ ap (λ (x : Cursor). x.state.at + p.length) rest)))
-    (rw is at c.take_record.ensures.closed))
+    (rw is at c.take_record.ensures.closed)
+    (ap (λ (x : Cursor). x.instance) rest ∙ c.requires.passed.instance))

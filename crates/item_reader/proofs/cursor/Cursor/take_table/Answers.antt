@@ -68,3 +68,4 @@ returns-clause-answers g c = λ reading told.
     (c.in_ok-bring_table.ensures.place ∙ sym (c.take_table.ensures.moved
     ∙ ap (λ (x : State). x.at + p.length) state_is)))
     c.take_table.ensures.closed
+    (ap (λ (x : Cursor). x.instance) c.in_ok-bring_table.ensures.rest ∙ c.requires.passed.instance)

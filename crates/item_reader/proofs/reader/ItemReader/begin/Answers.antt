@@ -55,7 +55,14 @@ returns-clause-reads g c =
     let old = g.S.Shelf.outside c.args.shelf.now in
     let new = g.S.Shelf.outside c.read_order.new.shelf in
     let at : Position → Cursor =
-    λ p. record { source = p; state = c.in_ok-new.field-0; own = c.new-3.result; looked = Nothing } in
+    λ p. record {
+      source = p;
+      state = c.in_ok-new.field-0;
+      own = c.new-3.result;
+      looked = Nothing;
+      kept = None;
+      instance = 0;
+    } in
     subst (λ (p : Position). Reads new (shown (at p) None None)) (sym c.source.view_is)
     (reads-begun old new c.in_ok-source.source c.in_ok-order.order (at c.read_order.new.source)
     c.read_order.ensures.on c.read_order.ensures.stands c.in_ok-order.ensures.order

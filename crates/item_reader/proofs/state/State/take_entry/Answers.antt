@@ -1,6 +1,7 @@
 use Rattle.item_reader.specs.State.{here_in}
 use Rattle.item_reader.proofs.Kept.{sound-entry}
 use Rattle.item_reader.proofs.Taken.{answers-passed, takes-entry, entry-answers}
+use Rattle.item_reader.proofs.Holding.{lent-entry}
 use Rattle.item_reader.proofs.state.State.take_entry.Goals as goal
 
 pub returns-in_err-changed-clause-answers : goal.returns-in_err-changed-clause-answers
@@ -25,3 +26,8 @@ returns-clause-kept c =
     sound-entry c.args.self.now c.args.head c.args.entry c.args.end c.in_ok-changed.changed c.hold.new.self
     c.requires.sound c.requires.here c.requires.after c.requires.low c.in_ok-changed.ensures.below
     c.in_ok-changed.ensures.holds
+
+pub returns-clause-lent : goal.returns-clause-lent
+returns-clause-lent c = λ kept beside.
+    lent-entry c.args.self.now c.args.entry c.args.head.at c.in_ok-changed.changed c.hold.new.self kept
+    c.in_ok-changed.ensures.holds beside
