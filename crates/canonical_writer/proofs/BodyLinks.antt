@@ -1,8 +1,8 @@
 -- The links of a body as they were read, and those that are to be written in their place.
-use Rattle.std.proofs.Common.{◌≡◌, ℕ, ◌-◌, List, [], ◌++◌, length, take, map, sym, ap}
+use Rattle.std.proofs.Common.{◌≡◌, ℕ, ◌-◌, ◌<◌, List, [], ◌++◌, length, take, get_or, map, sym, ap}
 use Rattle.std.proofs.Common.{◌∙◌, subst, arith}
 use Rattle.std.proofs.Math.ListN.{replicate}
-use Rattle.std.proofs.lemmas.List.{take_all, length-map, length-replicate}
+use Rattle.std.proofs.lemmas.List.{take_all, get_or-map, length-map, length-replicate}
 use Rattle.std.proofs.lemmas.Simd.{splat_is_map}
 use Rattle.scalar_types.specs.declared.Order.{Order}
 use Rattle.type_text.specs.declared.types.Link.{Link}
@@ -51,3 +51,19 @@ new-many order other fields body read given links written same whole is many =
     ap length is ∙ length-map (map link_in given) links ∙ length-map given link_in ∙ ap length whole in
     subst (λ order. HasLinks order fields body (length written)) (sym same)
     (subst (HasLinks order fields body) (sym size) many)
+
+-- ---- links that are written alike in two frames
+
+-- one link, as it is written
+one-link : (f : Link → Link) (read : List FieldLink) (k : ℕ) (d : FieldLink) → k < length read
+    → get_or (map f (map link_in read)) k (link_in d) ≡ f (link_in (get_or read k d))
+one-link f read k d within =
+    get_or-map f (map link_in read) k (link_in d) (link_in d) (omega (arith, within, length-map read link_in))
+    ∙ ap f (get_or-map link_in read k d (link_in d) within)
+
+-- so each is written alike
+pub alike-at : (f g : Link → Link) (read : List FieldLink) (k : ℕ) (d : FieldLink) → k < length read
+    → map f (map link_in read) ≡ map g (map link_in read)
+    → f (link_in (get_or read k d)) ≡ g (link_in (get_or read k d))
+alike-at f g read k d within same =
+    sym (one-link f read k d within) ∙ ap (λ links. get_or links k (link_in d)) same ∙ one-link g read k d within

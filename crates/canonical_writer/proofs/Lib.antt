@@ -14,6 +14,7 @@ pub mod FrameRecords
 pub mod FrameUses
 pub mod LinkedRows
 pub mod Numbering
+pub mod OneBody
 pub mod Pieces
 pub mod PrintedClosings
 pub mod PrintedEntries

@@ -55,7 +55,7 @@ body-bytes class instance again bytes all is =
     (All-drop IsByte (length head) (head ++ again) (subst AreBytes is all))
 
 -- the links of a body are those of its values
-links-read : (order : Order) (fields : List Field) (values : List Value) (tail body : List ℕ) → AreSound 0 fields
+pub links-read : (order : Order) (fields : List Field) (values : List Value) (tail body : List ℕ) → AreSound 0 fields
     → IsBody order fields values tail body → links_by order fields body ≡ links_in values
 links-read order fields values tail body sound is =
     ap (λ found. option_map_or (λ (x : List Value × List ℕ). links_in x.0) (result_ok found) [])
@@ -95,7 +95,7 @@ read-by held order r read links class instance fields bytes same all is =
     again.again)
 
 -- the fields of an entry as it is printed
-fields-printed : (e : Entry) (fields : List Field) → layout_of e.elements ≡ Some fields
+pub fields-printed : (e : Entry) (fields : List Field) → layout_of e.elements ≡ Some fields
     → fields ≡ entry_fields (printed_entry e)
 fields-printed e fields layout = sym (ap (λ o. unwrap_or o []) (layout-printed e.elements ∙ layout))
 

@@ -45,3 +45,7 @@ link_of links n = slice_index_or links n null_link
 
 abbrev pub link_to : List Bodied → List Link → Link → Link
 link_to nodes links link = option_map_or (link_of links) (target_of nodes link) null_link
+
+-- links that are read in two frames are written alike
+abbrev pub LeadAlike : List Bodied → List Link → List Bodied → List Link → List Link → Type 0
+LeadAlike nodes links others new read = map (link_to nodes links) read ≡ map (link_to others new) read

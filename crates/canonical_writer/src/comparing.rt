@@ -1,12 +1,14 @@
-//! Frames of two files compared record by record, each record as it would be written.
+//! Frames of two files compared record by record, each record as it would be written. Records with one body need not be
+//! written for that: they differ at most in where their links lead.
 
-ghost use Rattle.std.specs.Prelude.{◌≡◌, ◌↔◌, ◌<◌, ℕ, All, IfOk, IfSome, IsTrue, OnOk, length, map};
-ghost use Rattle.link_graph.specs.Graph.{ReadsBy};
+ghost use Rattle.std.specs.Prelude.{◌≡◌, ◌↔◌, ◌<◌, ℕ, All, IfOk, IfSome, IsTrue, OnOk, length, map, slice_get};
+ghost use Rattle.link_graph.specs.Graph.{ReadsBy, links_of};
 ghost use Rattle.dictionary.specs.Same.{AreRead};
 ghost use Rattle.frame_content.specs.Labels.{printed_entry};
-ghost use Rattle.canonical_writer.specs.Alike.{AreAlike, HaveOneEntry, AreWrittenAlike, IsWrittenAs};
-ghost use Rattle.canonical_writer.specs.Alike.{RecordsAreAlike};
+ghost use Rattle.canonical_writer.specs.Alike.{AreAlike, HaveOneBody, HaveOneEnd, HaveOneEntry, AreWrittenAlike};
+ghost use Rattle.canonical_writer.specs.Alike.{IsWrittenAs, RecordsAreAlike};
 ghost use Rattle.canonical_writer.specs.Filled.{frame_of, IsSource, IsPlacedAt, record_at, last_record};
+ghost use Rattle.canonical_writer.specs.NewLinks.{LeadAlike};
 ghost use Rattle.canonical_writer.specs.Parts.{IsUsableClosing, printed_closing};
 ghost use Rattle.canonical_writer.specs.Writer.{none_met};
 
@@ -16,6 +18,7 @@ use crate::records::LinkRoom;
 use canonical_file::Closing;
 use dictionary::{Dictionary, Element, Entry, same_entry};
 use layout_plan::measure;
+use link_graph::Segment;
 use std::alloc::{AllocError, Global};
 use std::marker::Model;
 
@@ -127,6 +130,9 @@ impl Comparison {
         if !self.have_one_entry(first.dictionary, second.dictionary, class) {
             return Ok(false);
         }
+        if self.have_one_body(first.segment, node, second.segment, other) {
+            return self.lead_alike(first, node, second.segment);
+        }
         self.first.write(first, node)?;
         self.second.write(second, other)?;
         Ok(self.first.bytes.as_slice() == self.second.bytes.as_slice())
@@ -154,9 +160,60 @@ impl Comparison {
         if !self.have_one_entry(first.dictionary, second.dictionary, class) {
             return Ok(false);
         }
+        if have_one_end(first.segment, second.segment) {
+            return Ok(true);
+        }
         self.first.write_end(first, class)?;
         self.second.write_end(second, class)?;
         Ok(self.first.bytes.as_slice() == self.second.bytes.as_slice())
+    }
+
+    /// Whether the records of two numbers have the same body, in one byte order, and are written with the same
+    /// instance: by one entry they hold the same then, but for where their links lead.
+    fn have_one_body(&self, first: &Segment, node: u32, second: &Segment, other: u32) -> bool
+        requires node { node < length first.now.nodes }
+        requires other { other < length second.now.nodes }
+        ensures { IsTrue result
+            ↔ HaveOneBody first.now self.now.first.links node second.now self.now.second.links other }
+    {
+        first.order() == second.order()
+            && self.first.links.link_of(node).instance == self.second.links.link_of(other).instance
+            && first.body(node) == second.body(other)
+    }
+
+    /// Whether the links of the record of a number, if they were read in the second frame too, are written alike.
+    fn lead_alike(
+        &mut self,
+        first: &FrameSource<'_>,
+        node: u32,
+        second: &Segment,
+    ) -> Result<bool, AllocError>
+        requires node { node < length first.now.segment.now.nodes }
+        requires bodies { All (ReadsBy first.now.plans.now first.now.segment.now.order)
+            first.now.segment.now.nodes }
+        ensures links { (self.new.first.links ≡ self.old.first.links)
+            × (self.new.second.links ≡ self.old.second.links) }
+        ensures met { self.new.met ≡ self.old.met }
+        ensures same { IfOk result (λ same. IfSome (slice_get first.now.segment.now.nodes node) (λ r. IsTrue same
+            ↔ LeadAlike first.now.segment.now.nodes self.old.first.links second.now.nodes self.old.second.links
+            (links_of first.now.plans.now first.now.segment.now.order r))) }
+    {
+        let class = first.segment.node(node).class;
+        let Some(plan) = first.plans.plan(class) else {
+            unreachable!();
+        };
+        let body = first.segment.body(node);
+        self.first
+            .room
+            .read_links(plan, first.segment.order(), body)?;
+        Ok(
+            self.first.links.lead_alike(
+                first.segment,
+                &self.second.links,
+                second,
+                self.first.room.read.as_slice(),
+            ),
+        )
     }
 
     /// Whether both dictionaries have one entry of the class, as it is written.
@@ -237,6 +294,14 @@ impl RecordRoom {
         are_bytes(self.bytes.as_slice());
         Ok(())
     }
+}
+
+/// Whether the end records have the same body, in one byte order: by one entry they hold the same then, but for their
+/// links, which are written null.
+fn have_one_end(first: &Segment, second: &Segment) -> bool
+    ensures { IsTrue result ↔ HaveOneEnd first.now second.now }
+{
+    first.order() == second.order() && first.end_body() == second.end_body()
 }
 
 /// Whether two entries are written alike: they are the same, comments too.

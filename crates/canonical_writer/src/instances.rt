@@ -1,9 +1,9 @@
 //! The links to the records of a frame as they are written: the instances of a class count up from 0 in the
 //! order.
 
-ghost use Rattle.std.specs.Prelude.{◌≡◌, [], OnOk, map};
+ghost use Rattle.std.specs.Prelude.{◌≡◌, ◌↔◌, [], IsTrue, OnOk, map};
 ghost use Rattle.link_graph.specs.Graph.{link_in};
-ghost use Rattle.canonical_writer.specs.NewLinks.{AreNewLinks, IsOrder, classes_of, link_of, link_to};
+ghost use Rattle.canonical_writer.specs.NewLinks.{AreNewLinks, IsOrder, LeadAlike, classes_of, link_of, link_to};
 
 use crate::records::NULL;
 use layout_plan::FieldLink;
@@ -94,5 +94,25 @@ impl NewLinks {
             into.push(self.link_to(segment, found.link))?;
         }
         Ok(())
+    }
+
+    /// Whether links that are read in the frames of two segments are written alike: these are the new links of the
+    /// first frame, `others` those of the other one.
+    pub fn lead_alike(
+        &self,
+        segment: &Segment,
+        others: &NewLinks,
+        other: &Segment,
+        read: &[FieldLink],
+    ) -> bool
+        ensures { IsTrue result
+            ↔ LeadAlike segment.now.nodes self.now other.now.nodes others.now (map link_in read.now) }
+    {
+        for found in read {
+            if self.link_to(segment, found.link) != others.link_to(other, found.link) {
+                return false;
+            }
+        }
+        true
     }
 }

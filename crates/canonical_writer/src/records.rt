@@ -56,7 +56,7 @@ pub fn end_structure(into: &mut Vec<u8>, start: usize, class: u8, instance: u32)
 /// Room for the links of one record: as they are read, and as they are written.
 #[derive(Drop)]
 pub struct LinkRoom {
-    read: Vec<FieldLink>,
+    pub read: Vec<FieldLink>,
     written: Vec<Link>,
 }
 
@@ -143,7 +143,7 @@ impl LinkRoom {
     }
 
     /// Reads the links of a body in place of those read before.
-    fn read_links(&mut self, plan: &Plan, order: Order, body: &[u8]) -> Result<(), AllocError>
+    pub fn read_links(&mut self, plan: &Plan, order: Order, body: &[u8]) -> Result<(), AllocError>
         requires { HasBody order plan.now body.now }
         ensures links { OnOk result
             (map link_in self.new.read.items ≡ links_by order plan.now body.now) }

@@ -1,10 +1,12 @@
 use Rattle.std.proofs.Common.{◌≡◌, sym, ◌∙◌, subst, arith}
 use Rattle.std.proofs.lemmas.Bool.{false≢true}
+use Rattle.std.proofs.lemmas.Result.{IfOk-weaker}
 use Rattle.canonical_writer.specs.declared.comparing.RecordRoom.{RecordRoom}
 use Rattle.canonical_writer.specs.Alike.{IsWrittenAs}
 use Rattle.canonical_writer.specs.Filled.{IsPlacedAt, record_at}
 use Rattle.canonical_writer.proofs.ComparedRecords.{HasEntry, row-has, one-class, one-entry, entry-one, bytes-alike}
 use Rattle.canonical_writer.proofs.ComparedRecords.{placed-within}
+use Rattle.canonical_writer.proofs.OneBody.{found-alike}
 use Rattle.canonical_writer.proofs.comparing.Comparison.are_same_records.Goals as goal
 use Rattle.canonical_writer.proofs.comparing.Comparison.are_same_records.Goals.{then-len-node-via-then-len-node}
 use Rattle.canonical_writer.proofs.comparing.Comparison.are_same_records.Goals.{then-len-node-via-else-len-node+then-len-other}
@@ -63,3 +65,22 @@ returns-clause-same c = λ k placed also alike.
     (c.in_ok-write-2.ensures.written k
     (subst (λ (room : RecordRoom). IsPlacedAt c.args.second.now room.links c.args.other k) (sym rooms.1) also)))
     c.eq.ensures
+
+pub returns-then-have_one_body-clause-same : goal.returns-then-have_one_body-clause-same
+returns-then-have_one_body-clause-same c =
+    let first = c.args.first.now in let second = c.args.second.now in
+    IfOk-weaker c.lead_alike.result _ _
+    (λ same lead k placed also alike.
+    let classes : c.node-2.result.now.class ≡ c.node.result.now.class = omega (arith, c.if-class-node.false) in
+    let entry = one-entry _ _ c.node.result.now.class _ _
+    (row-has first _ c.args.node k c.node.result.now placed c.node.ensures)
+    (subst (λ class. HasEntry second.dictionary.now class (record_at second k)) classes
+    (row-has second _ c.args.other k c.node-2.result.now also c.node-2.ensures))
+    ((c.have_one_entry.ensures.one alike).0 c.if-not-have_one_entry.false) in
+    let rooms = c.have_one_entry.ensures.rooms in
+    found-alike first second c.have_one_entry.new.self.first.links c.have_one_entry.new.self.second.links c.args.node
+    c.args.other k c.node.result.now c.node-2.result.now same
+    (subst (λ (room : RecordRoom). IsPlacedAt first room.links c.args.node k) (sym rooms.0) placed)
+    (subst (λ (room : RecordRoom). IsPlacedAt second room.links c.args.other k) (sym rooms.1) also)
+    c.node.ensures c.node-2.ensures (c.have_one_body.ensures.0 c.if-have_one_body.true) entry lead)
+    c.lead_alike.ensures.same
