@@ -83,6 +83,15 @@ returns-in-None-clause-reads g c =
     c.first_difference.ensures.reads c.read_to_end.ensures.draws c.read_to_end.ensures.reads c.requires.apart)
     c.read_to_end-2.ensures.draws c.read_to_end-2.ensures.reads c.requires.apart
 
+pub returns-in_err-read_to_end-clause-device : goal.returns-in_err-read_to_end-clause-device
+returns-in_err-read_to_end-clause-device g c = λ told.
+    let from = err_from_is_err_and c.from_residual-in_err-read_to_end.result
+    c.from_residual-in_err-read_to_end.ensures.1 in
+    rose-before _ _ _ (c.first_difference.ensures.reads.draws 0 (omega arith) (omega arith)).faults
+    (c.in_err-read_to_end.ensures.device (ap (λ e. Err e)
+    (passed-on c.from_residual-in_err-read_to_end.result from.0 c.in_err-read_to_end.field-0.0 error.Device from.1
+    from.2 told)))
+
 pub returns-in_err-read_to_end-2-clause-device : goal.returns-in_err-read_to_end-2-clause-device
 returns-in_err-read_to_end-2-clause-device g c = λ told.
     let r = c.args.first.now in
