@@ -1,0 +1,9 @@
+pub mod Printed
+pub mod Items
+pub mod Lines
+pub mod Page
+pub mod Spans
+pub mod Given
+pub mod Printing
+pub mod Errors
+pub mod Due

@@ -1,0 +1,137 @@
+//! The lines of entries and of other structures.
+
+ghost use Rattle.std.specs.Prelude.{◌≡◌, ◌++◌, ℕ, [], OnOk, codes};
+ghost use Rattle.std.specs.String.{string_bytes};
+ghost use Rattle.layout_plan.specs.Plans.{plan_of};
+ghost use Rattle.file_grammar.specs.Record.{layout_in};
+ghost use Rattle.dumper.specs.Lines.{heading, element_line, entry_line, entry_text, structure_line, structure_text};
+ghost use Rattle.dumper.specs.Lines.{end_line};
+ghost use Rattle.dumper.specs.Page.{Prints};
+
+use crate::bodies::print_body;
+use crate::escapes::push_escaped;
+use crate::page::Page;
+use dictionary::{Dictionary, Element, Entry};
+use frame_outside::{ShelfError, Sink};
+use layout_plan::Plans;
+use scalar_types::Order;
+use std::alloc::AllocError;
+use std::fmt::Write;
+
+/// A structure as its first line tells it.
+#[derive(Clone, Copy)]
+pub struct Told {
+    /// Its place, in bytes from the beginning of the file.
+    pub at: u64,
+    /// Its class.
+    pub class: u8,
+    /// Its number among those of its class.
+    pub instance: u32,
+    /// The bytes of the whole structure.
+    pub length: u64,
+}
+
+/// Appends the first line of a file. Fails only where memory is out.
+pub fn push_heading(text: &mut String, order: Order) -> Result<(), AllocError>
+    ensures { OnOk result (string_bytes text.new ≡ string_bytes text.old ++ heading order) }
+{
+    match order {
+        Order::Big => text.push_str("file order big\n"),
+        Order::Little => text.push_str("file order little\n"),
+    }
+}
+
+/// Appends the last line of a file of so many bytes. Fails only where memory is out.
+pub fn push_end(text: &mut String, bytes: u64) -> Result<(), AllocError>
+    ensures { OnOk result (string_bytes text.new ≡ string_bytes text.old ++ end_line bytes) }
+{
+    write!(text, "end bytes {bytes}\n")
+}
+
+/// Prints an entry. `Failed` where the sink fails, `NoMemory` where memory is out; a part of the text may be printed
+/// then.
+pub fn print_entry<O: Sink>(page: &mut Page, out: &mut O, entry: &Entry) -> Result<(), ShelfError>
+    ensures { Prints (O.output out.old) (O.output out.new) page.old page.new (entry_text entry.now) result }
+{
+    let composed = push_entry(&mut page.text, entry);
+    page.settle(out, composed)?;
+    for element in entry.elements.as_slice() {
+        let composed = push_element(&mut page.text, element);
+        page.settle(out, composed)?;
+    }
+    Ok(())
+}
+
+/// Appends the first line of an entry.
+fn push_entry(text: &mut String, entry: &Entry) -> Result<(), AllocError>
+    ensures { OnOk result (string_bytes text.new ≡ string_bytes text.old ++ entry_line entry.now) }
+{
+    let class = entry.class;
+    let elements = entry.elements.len();
+    write!(text, "entry {class} ")?;
+    push_escaped(text, entry.name.bytes())?;
+    write!(text, " elements {elements}\n")
+}
+
+/// Appends the line of an element.
+fn push_element(text: &mut String, element: &Element) -> Result<(), AllocError>
+    ensures { OnOk result (string_bytes text.new ≡ string_bytes text.old ++ element_line element.now) }
+{
+    text.push_str("  ")?;
+    push_escaped(text, element.name.bytes())?;
+    text.push(' ')?;
+    push_escaped(text, element.text.bytes())?;
+    text.push('\n')
+}
+
+/// Prints a structure that is no part of an entry. The plans are those of the dictionary's entries; a body whose class
+/// is not held, or that does not spell its layout, is told to be unread. `Failed` where the sink fails, `NoMemory`
+/// where memory is out; a part of the text may be printed then.
+pub fn print_structure<O: Sink>(
+    page: &mut Page,
+    out: &mut O,
+    order: Order,
+    dictionary: &Dictionary,
+    plans: &Plans,
+    told: Told,
+    body: &[u8],
+) -> Result<(), ShelfError>
+    requires plans { (class : ℕ) → plan_of plans.now class ≡ layout_in dictionary.now class }
+    ensures { Prints (O.output out.old) (O.output out.new) page.old page.new
+        (structure_text order dictionary.now told.at told.class told.instance told.length body.now) result }
+{
+    let Some(entry) = dictionary.get(told.class) else {
+        return print_unheld(page, out, told);
+    };
+    let composed = push_told(&mut page.text, entry.name.bytes(), told);
+    page.settle(out, composed)?;
+    let elements = entry.elements.as_slice();
+    print_body(page, out, order, elements, plans.plan(told.class), body)
+}
+
+/// Prints a structure of a class that the dictionary does not hold: its first line, and that its body is not read.
+fn print_unheld<O: Sink>(page: &mut Page, out: &mut O, told: Told) -> Result<(), ShelfError>
+    ensures { Prints (O.output out.old) (O.output out.new) page.old page.new
+        (structure_line [] told.at told.class told.instance told.length ++ codes "  unread\n") result }
+{
+    let composed = push_told(&mut page.text, &[], told);
+    page.settle(out, composed)?;
+    let composed = page.text.push_str("  unread\n");
+    page.settle(out, composed)
+}
+
+/// Appends the first line of a structure.
+fn push_told(text: &mut String, name: &[u8], told: Told) -> Result<(), AllocError>
+    ensures { OnOk result (string_bytes text.new ≡ string_bytes text.old
+        ++ structure_line name.now told.at told.class told.instance told.length) }
+{
+    let Told {
+        at,
+        class,
+        instance,
+        length,
+    } = told;
+    write!(text, "record at {at} ")?;
+    push_escaped(text, name)?;
+    write!(text, " class {class} instance {instance} length {length}\n")
+}
