@@ -17,3 +17,6 @@ mod SpliceWords
 mod Splices
 mod Structures
 mod Walking
+mod MakeWords
+mod Dumping
+mod Making

@@ -1,6 +1,7 @@
 -- Words over files have one reply that is due.
-use Rattle.std.proofs.Common.{◌≡◌, ℕ, ◌<◌, ◌⊎◌, List, [], ◌∷◌, length, Option, Some, None, inl, inr, refl, sym, ap}
+use Rattle.std.proofs.Common.{◌≡◌, ℕ, ◌<◌, ◌≤◌, ◌⊎◌, List, [], ◌∷◌, length, Option, Some, None, inl, inr, refl, sym, ap}
 use Rattle.std.proofs.Common.{◌∙◌, arith}
+use Rattle.scalar_types.specs.declared.Order.TheVariants.{Little}
 use Rattle.frame_outside.specs.Shelf.{Files}
 use Rattle.file_grammar.specs.declared.fault.Fault.{Fault}
 use Rattle.file_grammar.specs.Fault.{IsFirstFault}
@@ -15,15 +16,20 @@ use Rattle.frame_tool.specs.declared.judgement.Finding.TheVariants.{Accepted, Re
 use Rattle.frame_tool.specs.declared.judgement.Report.TheVariants.{Summary, Channels}
 use Rattle.frame_tool.specs.Check.{IsFinding}
 use Rattle.frame_tool.specs.Due.{Reply, reply_with, walk_reply, finding_reply, splice_reply, IsFileDue, IsSpliceDue}
-use Rattle.frame_tool.specs.Due.{IsSameDue, IsCommandDue}
+use Rattle.frame_tool.specs.Due.{IsSameDue, IsDumpDue, IsMakeDue, dump_reply, make_reply, IsCommandDue}
 use Rattle.frame_tool.specs.Due.{AreFit, EachRunHasADueReply, NoRunHasTwoDueReplies}
-use Rattle.frame_tool.specs.Words.{Form, WalkFile, CheckFile, ListFile, SameFiles, SpliceFiles, command_of}
+use Rattle.frame_tool.specs.Words.{Form, WalkFile, CheckFile, ListFile, SameFiles, SpliceFiles, DumpFile, MakeFile}
+use Rattle.frame_tool.specs.Words.{command_of}
 use Rattle.frame_tool.specs.Outcome.{compared}
 use Rattle.frame_reader.specs.Gives.{HoldBytes}
 use Rattle.content_compare.specs.Laws.{EachComparisonHasADue, NoComparisonHasTwoDues}
 use Rattle.splicer.proofs.Dues.{no-two-dues, a-due}
 use Rattle.frame_tool.proofs.OneVerdict.{a_verdict, no_two_verdicts}
+use Rattle.dumper.proofs.OneDump.{each-dump, one-dump}
+use Rattle.sample_file.specs.Whole.{sample_bytes}
+use Rattle.sample_file.proofs.WholeFiles.{sample-back}
 use Rattle.frame_tool.proofs.SpliceWords.{splice_read}
+use Rattle.frame_tool.proofs.MakeWords.{make_read}
 
 -- of each file something is found
 abbrev EachHas : {A : Type 0} → (List ℕ → A → Type 0) → Type 0
@@ -95,6 +101,36 @@ same_dues : NoComparisonHasTwoDues → (files : Files) (name other : List ℕ) (
 same_dues alone files name other first second (a, is, left) (b, also, right) =
     left ∙ ap (λ due. reply_with (compared due)) (alone files name other a b is also) ∙ sym right
 
+-- a dump has a reply that is due, and no two
+dump_due : (held : Option (List ℕ)) → (reply : Reply) × IsDumpDue held reply
+dump_due None = (reply_with Device, refl)
+dump_due (Some file) =
+    let dump = each-dump file in
+    (dump_reply dump.0 dump.1, (dump.0, dump.1, dump.2, refl))
+
+pub dump_dues : (held : Option (List ℕ)) (first second : Reply) → IsDumpDue held first → IsDumpDue held second
+    → first ≡ second
+dump_dues None first second left right = left ∙ sym right
+dump_dues (Some file) first second (fault, text, is, left) (other, printed, also, right) =
+    let same = one-dump file fault other text printed is also in
+    left ∙ ap (λ f. dump_reply f text) same.0 ∙ ap (dump_reply other) same.1 ∙ sym right
+
+-- so has the making of a file of 100,000 frames at most
+pub sample_contents : (frames : ℕ) → frames ≤ 100000 → (contents : Contents) × AreContents (sample_bytes frames) contents
+sample_contents frames few =
+    let back = sample-back frames few in
+    has-contents (sample_bytes frames) Little back.items back.last back.well_formed
+
+make_due : (frames : ℕ) (to : List ℕ) → frames ≤ 100000 → (reply : Reply) × IsMakeDue frames to reply
+make_due frames to few =
+    let some = sample_contents frames few in
+    (make_reply frames to some.0, (some.0, some.1, refl))
+
+make_dues : (frames : ℕ) (to : List ℕ) (first second : Reply) → IsMakeDue frames to first → IsMakeDue frames to second
+    → first ≡ second
+make_dues frames to first second (contents, are, left) (other, also, right) =
+    left ∙ ap (make_reply frames to) (no-two-contents (sample_bytes frames) contents other are also) ∙ sym right
+
 command_due : EachComparisonHasADue → (files : Files) (words : List (List ℕ)) (command : Option Form)
     → AreFit command files → command_of words ≡ command → (reply : Reply) × IsCommandDue files command reply
 command_due each files words None bytes is = (reply_with Usage, refl)
@@ -106,6 +142,8 @@ command_due each files words (Some (ListFile file)) bytes is =
 command_due each files words (Some (SameFiles first second)) bytes is = same_due each files first second bytes
 command_due each files words (Some (SpliceFiles to from)) bytes is =
     splice_due files to from bytes (splice_read words to from is).some
+command_due each files words (Some (DumpFile file)) bytes is = dump_due (files file)
+command_due each files words (Some (MakeFile frames to)) bytes is = make_due frames to (make_read words frames to is)
 
 command_dues : NoComparisonHasTwoDues → (files : Files) (command : Option Form) (first second : Reply)
     → IsCommandDue files command first → IsCommandDue files command second → first ≡ second
@@ -120,6 +158,10 @@ command_dues alone files (Some (SameFiles name other)) first second left right =
     same_dues alone files name other first second left right
 command_dues alone files (Some (SpliceFiles to from)) first second left right =
     splice_dues files to from first second left right
+command_dues alone files (Some (DumpFile file)) first second left right =
+    dump_dues (files file) first second left right
+command_dues alone files (Some (MakeFile frames to)) first second left right =
+    make_dues frames to first second left right
 
 pub a_due_reply : EachComparisonHasADue → EachRunHasADueReply
 a_due_reply each files words bytes = command_due each files words (command_of words) bytes refl

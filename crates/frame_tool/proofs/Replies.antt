@@ -13,13 +13,14 @@ use Rattle.frame_tool.specs.declared.judgement.Finding.{Finding}
 use Rattle.frame_tool.specs.declared.judgement.Finding.TheVariants.{Accepted, Refused}
 use Rattle.frame_tool.specs.declared.judgement.Report.{Report}
 use Rattle.frame_tool.specs.declared.judgement.Report.TheVariants.{Summary, Channels}
-use Rattle.frame_tool.specs.Words.{Form, WalkFile, CheckFile, ListFile, SameFiles, SpliceFiles, command_of}
-use Rattle.frame_tool.specs.Words.{output_of}
+use Rattle.frame_tool.specs.Words.{Form, WalkFile, CheckFile, ListFile, SameFiles, SpliceFiles, DumpFile, MakeFile}
+use Rattle.frame_tool.specs.Words.{command_of, output_of}
 use Rattle.frame_tool.specs.Outcome.{line_of}
 use Rattle.frame_tool.specs.Due.{Reply, Output, Nothing, IsFileDue, IsCommandDue, IsAnswer, IsAmong, Prints}
-use Rattle.frame_tool.specs.Due.{AppendsFront, walk_reply, finding_reply, form_asking}
+use Rattle.dumper.specs.Page.{AppendsPrefix}
+use Rattle.frame_tool.specs.Due.{walk_reply, finding_reply, form_asking}
 use Rattle.frame_tool.specs.Walk.{IsVerdict}
-use Rattle.frame_tool.specs.WalkSteps.{ReadsOneFile}
+use Rattle.dumper.specs.Due.{ReadsOneFile}
 use Rattle.frame_tool.specs.Check.{IsFinding}
 use Rattle.frame_tool.specs.Run.{Leaves, Keeps, DrawsNoFurther, Replies, Runs}
 use Rattle.frame_tool.proofs.OneVerdict.{no_two_verdicts}
@@ -27,9 +28,9 @@ use Rattle.frame_tool.proofs.OneReply.{NoneHasTwo, file_dues, no_two_findings}
 
 -- ---- what is printed
 
--- a whole text is a front of it
-whole_front : (text : List ℕ) (old new : Printed) → Appends old new text → AppendsFront old new text
-whole_front text old new appends = record {
+-- a whole text is a prefix of it
+whole_prefix : (text : List ℕ) (old new : Printed) → Appends old new text → AppendsPrefix old new text
+whole_prefix text old new appends = record {
   count = length text;
   appends = subst (Appends old new) (sym (take_all (length text) text (omega arith))) appends;
 }
@@ -37,8 +38,8 @@ whole_front text old new appends = record {
 -- a text that was appended was printed, whatever the answer
 pub prints_whole : (outcome : Outcome) (text : List ℕ) (old new : Printed) → Appends old new text
     → Prints outcome text old new
-prints_whole Device text old new appends = whole_front text old new appends
-prints_whole NoMemory text old new appends = whole_front text old new appends
+prints_whole Device text old new appends = whole_prefix text old new appends
+prints_whole NoMemory text old new appends = whole_prefix text old new appends
 prints_whole _ text old new appends = appends
 
 -- what was printed took no fault back
@@ -56,12 +57,12 @@ appends_nothing sink = record { faults = omega arith; written = by sink.written 
     by None = tt
     by (Some written) = sym (append-nil written)
 
--- and that is a front of each text
-nothing_front : (outcome : Outcome) (text : List ℕ) (sink : Printed) → (outcome ≡ Device) ⊎ (outcome ≡ NoMemory)
+-- and that is a prefix of each text
+pub nothing_prefix : (outcome : Outcome) (text : List ℕ) (sink : Printed) → (outcome ≡ Device) ⊎ (outcome ≡ NoMemory)
     → Prints outcome text sink sink
-nothing_front outcome text sink failed = by failed
+nothing_prefix outcome text sink failed = by failed
   where
-    front : AppendsFront sink sink text
+    front : AppendsPrefix sink sink text
     front = record { count = 0; appends = appends_nothing sink }
 
     by : (outcome ≡ Device) ⊎ (outcome ≡ NoMemory) → Prints outcome text sink sink
@@ -164,14 +165,14 @@ writes_nothing is reply_of nothing (Some file) reply (a, holds, same) =
     ap (λ (r : Reply). r.output) same ∙ nothing a
 
 -- and the files are as they were
-leaves_all : (files : Files) (new : Option Files) (outcome : Outcome) (output : Output) → output ≡ Nothing
+pub leaves_all : (files : Files) (new : Option Files) (outcome : Outcome) (output : Output) → output ≡ Nothing
     → new ≡ Some files → Leaves files new outcome output
 leaves_all files new outcome output nothing same =
     let P : Output → Type 0 = λ o. Leaves files new outcome o in
     subst P (sym nothing) same
 
 -- the slots that were given before are as they were
-keeps_all : (form : Form) (old new : Outside) (name : List ℕ) → output_of (Some form) ≡ None
+pub keeps_all : (form : Form) (old new : Outside) (name : List ℕ) → output_of (Some form) ≡ None
     → ReadsOneFile old new name → Keeps (output_of (Some form)) old new
 keeps_all form old new name unwritten reads =
     let P : Option (List ℕ) → Type 0 = λ to. Keeps to old new in
@@ -185,6 +186,8 @@ unbounded (CheckFile file) files old new none = tt
 unbounded (ListFile file) files old new none = tt
 unbounded (SameFiles first second) files old new none = tt
 unbounded (SpliceFiles to from) files old new none = cc
+unbounded (DumpFile file) files old new none = tt
+unbounded (MakeFile frames to) files old new none = tt
 
 -- something was found of the file, and its reply printed
 pub replies_found : (A : Type 0) (is : List ℕ → A → Type 0) (reply_of : A → Reply) (form : Form)
@@ -231,7 +234,7 @@ pub replies_failed : (A : Type 0) (is : List ℕ → A → Type 0) (reply_of : A
     → Replies (λ files reply. IsFileDue is reply_of (files name) reply) (Some form) 1 old new sink sink outcome
 replies_failed A is reply_of form on old new sink name outcome reads failed device = record {
   answer = λ files told reply due. inr failed;
-  text = λ files told reply due. nothing_front outcome reply.text sink failed;
+  text = λ files told reply due. nothing_prefix outcome reply.text sink failed;
   output = λ files told reply due.
       leaves_all files new.files outcome reply.output
       (writes_nothing is reply_of on.nothing (files name) reply due) (reads.files ∙ told);

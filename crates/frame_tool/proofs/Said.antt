@@ -8,7 +8,8 @@ use Rattle.frame_tool.specs.declared.outcome.Outcome.{Outcome}
 use Rattle.frame_tool.specs.declared.outcome.Outcome.TheVariants.{Device, NoMemory}
 use Rattle.frame_tool.specs.Words.{Form, output_of}
 use Rattle.frame_tool.specs.Outcome.{line_of}
-use Rattle.frame_tool.specs.Due.{Reply, IsAnswer, IsAmong, Prints, AppendsFront}
+use Rattle.dumper.specs.Page.{AppendsPrefix}
+use Rattle.frame_tool.specs.Due.{Reply, IsAnswer, IsAmong, Prints}
 use Rattle.frame_tool.specs.Run.{Leaves, Keeps, DrawsNoFurther, Replies}
 use Rattle.frame_tool.proofs.Replies.{among_due, prints_faults}
 
@@ -24,7 +25,7 @@ answer_on outcome said due (inr failed) also = inr failed
 -- ---- what is printed
 
 -- a front of no text is a front of each
-front_of_none : (text : List ℕ) (before after : Printed) → AppendsFront before after [] → AppendsFront before after text
+front_of_none : (text : List ℕ) (before after : Printed) → AppendsPrefix before after [] → AppendsPrefix before after text
 front_of_none text before after front =
     record { count = 0; appends = subst (Appends before after) (take-nil front.count) front.appends }
 

@@ -8,8 +8,8 @@ use Rattle.std.proofs.lemmas.List.Elements.{All-nil, All-cons}
 use Rattle.std.proofs.lemmas.Slice.Eq.{bytes_eq-Decides}
 use Rattle.std.specs.List.{list_any}
 use Rattle.file_grammar.specs.Fault.{is_empty}
-use Rattle.frame_tool.specs.Words.{Form, WalkFile, CheckFile, ListFile, SpliceFiles, texts, single, compared}
-use Rattle.frame_tool.specs.Words.{apart, copied, spliced, command_of}
+use Rattle.frame_tool.specs.Words.{Form, WalkFile, CheckFile, ListFile, SpliceFiles, DumpFile, MakeFile, texts}
+use Rattle.frame_tool.specs.Words.{single, compared, apart, copied, spliced, frames_told, made, command_of}
 
 -- A splice that words are: of one file or more, of fewer than 2^32, none of which is the output.
 pub record IsRead (words : List (List ℕ)) (to : List ℕ) (from : List (List ℕ)) : Type 0 where
@@ -77,52 +77,72 @@ none_compared (file ∷ []) to from is = cc
 none_compared (file ∷ other ∷ []) to from is = cc
 none_compared (file ∷ other ∷ more ∷ others) to from is = cc
 
+-- words of which a file is made are no splice
+none_made : (words : List (List ℕ)) (to : List ℕ) (from : List (List ℕ)) → made words ≡ Some (SpliceFiles to from) → ⊥
+none_made [] to from is = cc
+none_made (frames ∷ []) to from is = cc
+none_made (frames ∷ out ∷ []) to from is = by (frames_told frames) is
+  where
+    by : (told : Option ℕ) → option_map (λ n. MakeFile n out) told ≡ Some (SpliceFiles to from) → ⊥
+    by None same = cc
+    by (Some n) same = cc
+none_made (frames ∷ out ∷ more ∷ others) to from is = cc
+
 -- words that are a splice
 pub splice_read : (words : List (List ℕ)) (to : List ℕ) (from : List (List ℕ))
     → command_of words ≡ Some (SpliceFiles to from) → IsRead words to from
 splice_read [] to from is = absurd cc
 splice_read (first ∷ words) to from is =
     by (bytes_eq first (codes "walk")) (bytes_eq first (codes "check")) (bytes_eq first (codes "list"))
-    (bytes_eq first (codes "same")) (bytes_eq first (codes "copy")) (bytes_eq first (codes "splice")) is
+    (bytes_eq first (codes "same")) (bytes_eq first (codes "copy")) (bytes_eq first (codes "splice"))
+    (bytes_eq first (codes "dump")) (bytes_eq first (codes "make")) is
   where
-    by : (walk check list same copy splice : Bool)
+    by : (walk check list same copy splice dump make : Bool)
         → cond walk (option_map WalkFile (single words))
         (cond check (option_map CheckFile (single words))
         (cond list (option_map ListFile (single words))
         (cond same (compared words)
         (cond copy (copied words)
-        (cond splice (spliced words) None))))) ≡ Some (SpliceFiles to from)
+        (cond splice (spliced words)
+        (cond dump (option_map DumpFile (single words))
+        (cond make (made words) None))))))) ≡ Some (SpliceFiles to from)
         → IsRead (first ∷ words) to from
-    by true check list same copy splice form =
+    by true check list same copy splice dump make form =
         absurd (one_word WalkFile (SpliceFiles to from) (single words) (λ file no. cc) form)
-    by false true list same copy splice form =
+    by false true list same copy splice dump make form =
         absurd (one_word CheckFile (SpliceFiles to from) (single words) (λ file no. cc) form)
-    by false false true same copy splice form =
+    by false false true same copy splice dump make form =
         absurd (one_word ListFile (SpliceFiles to from) (single words) (λ file no. cc) form)
-    by false false false true copy splice form = absurd (none_compared words to from form)
-    by false false false false true splice form = copied_read first words to from form
-    by false false false false false true form = spliced_read first words to from form
-    by false false false false false false form = absurd cc
+    by false false false true copy splice dump make form = absurd (none_compared words to from form)
+    by false false false false true splice dump make form = copied_read first words to from form
+    by false false false false false true dump make form = spliced_read first words to from form
+    by false false false false false false true make form =
+        absurd (one_word DumpFile (SpliceFiles to from) (single words) (λ file no. cc) form)
+    by false false false false false false false true form = absurd (none_made words to from form)
+    by false false false false false false false false form = absurd cc
 
 -- one word is no command
 none_alone : (word : List ℕ) → command_of (word ∷ []) ≡ None
 none_alone word =
     by (bytes_eq word (codes "walk")) (bytes_eq word (codes "check")) (bytes_eq word (codes "list"))
     (bytes_eq word (codes "same")) (bytes_eq word (codes "copy")) (bytes_eq word (codes "splice"))
+    (bytes_eq word (codes "dump")) (bytes_eq word (codes "make"))
   where
     none : Option Form
     none = None
 
-    by : (walk check list same copy splice : Bool)
-        → cond walk none (cond check none (cond list none (cond same none (cond copy none (cond splice none none)))))
-        ≡ None
-    by true check list same copy splice = refl
-    by false true list same copy splice = refl
-    by false false true same copy splice = refl
-    by false false false true copy splice = refl
-    by false false false false true splice = refl
-    by false false false false false true = refl
-    by false false false false false false = refl
+    by : (walk check list same copy splice dump make : Bool)
+        → cond walk none (cond check none (cond list none (cond same none (cond copy none (cond splice none
+        (cond dump none (cond make none none))))))) ≡ None
+    by true check list same copy splice dump make = refl
+    by false true list same copy splice dump make = refl
+    by false false true same copy splice dump make = refl
+    by false false false true copy splice dump make = refl
+    by false false false false true splice dump make = refl
+    by false false false false false true dump make = refl
+    by false false false false false false true make = refl
+    by false false false false false false false true = refl
+    by false false false false false false false false = refl
 
 -- a command has two words or more
 pub two_words : (words : List (List ℕ)) (form : Form) → command_of words ≡ Some form → 2 ≤ length words

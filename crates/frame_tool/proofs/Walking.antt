@@ -18,7 +18,8 @@ use Rattle.frame_tool.specs.declared.verdict.Verdict.TheVariants.{Sound, Wrong}
 use Rattle.frame_tool.specs.declared.walk.Found.{Found}
 use Rattle.frame_tool.specs.declared.walk.Found.TheVariants.{End, Structure, Fault}
 use Rattle.frame_tool.specs.Walk.{MayStand, StandFrom, IsVerdict}
-use Rattle.frame_tool.specs.WalkSteps.{IsFound, Stood, FaultAfter, FindsOn, ReadsOneFile}
+use Rattle.frame_tool.specs.WalkSteps.{IsFound, Stood, FaultAfter, FindsOn}
+use Rattle.dumper.specs.Due.{ReadsOneFile}
 
 pub stood_none : (order : Order) (rest : List ℕ) → Stood order rest 0 0
 stood_none order rest = record { structures = []; within = omega arith; parts = refl; stand = tt; counted = refl }

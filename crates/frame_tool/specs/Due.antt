@@ -1,13 +1,18 @@
 -- The reply that is due to words over files: the answer, the text that is printed, and what is written.
-use Rattle.std.specs.Prelude.{◌≡◌, ℕ, ◌<◌, Bool, List, ◌++◌, length, codes, Option, Some, None, ◌⊎◌, ⊤, take}
+use Rattle.std.specs.Prelude.{◌≡◌, ℕ, ◌<◌, Bool, List, ◌++◌, length, codes, Option, Some, None, ◌⊎◌, ⊤}
 use Rattle.std.specs.Fmt.{decimal}
 use Rattle.scalar_types.specs.declared.Order.{Order}
-use Rattle.scalar_types.specs.declared.Order.TheVariants.{Big, Little}
 use Rattle.file_content.specs.declared.contents.Contents.{Contents}
 use Rattle.file_content.specs.declared.state.TableState.{TableState}
 use Rattle.file_content.specs.declared.state.TableState.TheVariants as state
 use Rattle.frame_outside.specs.Shelf.{Files}
 use Rattle.frame_outside.specs.Sink.{Output as Printed, Appends}
+use Rattle.file_grammar.specs.declared.fault.Fault.{Fault as FirstFault}
+use Rattle.file_content.specs.Contents.{AreContents}
+use Rattle.dumper.specs.Page.{AppendsPrefix}
+use Rattle.dumper.specs.Due.{IsDump}
+use Rattle.dumper.specs.Lines.{order_name}
+use Rattle.sample_file.specs.Whole.{sample_bytes}
 use Rattle.frame_tool.specs.declared.outcome.Outcome.{Outcome}
 use Rattle.frame_tool.specs.declared.outcome.Outcome.TheVariants.{Done, Same, Different, Fault, Clash}
 use Rattle.frame_tool.specs.declared.outcome.Outcome.TheVariants.{FramesLimit, OutputLimit}
@@ -20,7 +25,8 @@ use Rattle.splicer.specs.Due as SpliceDue
 use Rattle.content_compare.specs.Due.{Answer}
 use Rattle.content_compare.specs.Due as CompareDue
 use Rattle.frame_tool.specs.Outcome.{line_of, compared, spliced}
-use Rattle.frame_tool.specs.Words.{Form, WalkFile, CheckFile, ListFile, SameFiles, SpliceFiles, command_of}
+use Rattle.frame_tool.specs.Words.{Form, WalkFile, CheckFile, ListFile, SameFiles, SpliceFiles, DumpFile}
+use Rattle.frame_tool.specs.Words.{MakeFile, command_of}
 use Rattle.frame_tool.specs.declared.judgement.Finding.{Finding}
 use Rattle.frame_tool.specs.declared.judgement.Finding.TheVariants.{Accepted, Refused}
 use Rattle.frame_tool.specs.declared.judgement.Report.{Report}
@@ -29,19 +35,17 @@ use Rattle.frame_tool.specs.Walk.{IsVerdict}
 use Rattle.frame_tool.specs.Check.{IsFinding}
 use Rattle.frame_tool.specs.Listing.{list_text}
 
--- what is written: nothing, or these bytes to the file of a name, a whole file or the beginning of one
+-- what is written: nothing; these bytes to the file of a name, a whole file or the beginning of one; or these, which
+-- may stand there whole where what comes after them is refused
 pub data Output : Type 0 where
   Nothing : Output
   Bytes : (to : List ℕ) (whole : Bool) (bytes : List ℕ) → Output
+  Made : (to bytes : List ℕ) → Output
 
 pub record Reply : Type 0 where
   pub outcome : Outcome
   pub text : List ℕ
   pub output : Output
-
-abbrev pub order_name : Order → List ℕ
-order_name Big = codes "big"
-order_name Little = codes "little"
 
 abbrev pub walk_text : Order → ℕ → List ℕ
 walk_text order count = codes "order: "
@@ -116,6 +120,31 @@ splice_reply to due = record {
 abbrev pub IsSpliceDue : List ℕ → List (List ℕ) → Files → Reply → Type 0
 IsSpliceDue to from files reply = (due : Due) × SpliceDue.IsDue files from due × (reply ≡ splice_reply to due)
 
+-- the reply of a dump, by the first fault of the file and the lines before it: the line of the fault comes last
+abbrev pub dump_reply : Option FirstFault → List ℕ → Reply
+dump_reply None text = record { outcome = Done; text = text; output = Nothing }
+dump_reply (Some fault) text = record {
+  outcome = Fault 0 fault.at fault.field fault.reason;
+  text = text ++ line_of (Fault 0 fault.at fault.field fault.reason);
+  output = Nothing;
+}
+
+-- the reply that is due to `dump`
+abbrev pub IsDumpDue : Option (List ℕ) → Reply → Type 0
+IsDumpDue None reply = reply ≡ reply_with Device
+IsDumpDue (Some file) reply =
+    (fault : Option FirstFault) × (text : List ℕ) × IsDump file fault text × (reply ≡ dump_reply fault text)
+
+-- the reply of the making of a file of so many frames, by what it holds: the file is written, and its summary printed
+abbrev pub make_reply : ℕ → List ℕ → Contents → Reply
+make_reply frames to contents =
+    record { outcome = Done; text = check_text contents; output = Made to (sample_bytes frames) }
+
+-- the reply that is due to `make`
+abbrev pub IsMakeDue : ℕ → List ℕ → Reply → Type 0
+IsMakeDue frames to reply =
+    (contents : Contents) × AreContents (sample_bytes frames) contents × (reply ≡ make_reply frames to contents)
+
 abbrev pub IsCommandDue : Files → Option Form → Reply → Type 0
 IsCommandDue files None reply = reply ≡ reply_with Usage
 IsCommandDue files (Some (WalkFile file)) reply = IsWalkDue (files file) reply
@@ -123,6 +152,8 @@ IsCommandDue files (Some (CheckFile file)) reply = IsReportDue Summary (files fi
 IsCommandDue files (Some (ListFile file)) reply = IsReportDue Channels (files file) reply
 IsCommandDue files (Some (SameFiles first second)) reply = IsSameDue first second files reply
 IsCommandDue files (Some (SpliceFiles to from)) reply = IsSpliceDue to from files reply
+IsCommandDue files (Some (DumpFile file)) reply = IsDumpDue (files file) reply
+IsCommandDue files (Some (MakeFile frames to)) reply = IsMakeDue frames to reply
 
 -- the reply that is due to words over the files that are held
 abbrev pub IsDue : Files → List (List ℕ) → Reply → Type 0
@@ -144,6 +175,8 @@ IsAmong Done (Some form) = ⊤
 IsAmong (Fault file at field reason) (Some (WalkFile name)) = (file ≡ 0) × (field ≡ 0)
 IsAmong (Fault file at field reason) (Some (CheckFile name)) = file ≡ 0
 IsAmong (Fault file at field reason) (Some (ListFile name)) = file ≡ 0
+IsAmong (Fault file at field reason) (Some (DumpFile name)) = file ≡ 0
+IsAmong (Fault file at field reason) (Some (MakeFile frames to)) = file ≡ 0
 IsAmong (Fault file at field reason) (Some (SameFiles first second)) = file < 2
 IsAmong (Fault file at field reason) (Some (SpliceFiles to from)) = file < length from
 IsAmong (Clash file class) (Some (SpliceFiles to from)) = file < length from
@@ -151,15 +184,10 @@ IsAmong FramesLimit (Some (SpliceFiles to from)) = ⊤
 IsAmong OutputLimit (Some (SpliceFiles to from)) = ⊤
 IsAmong _ command = ⊥
 
--- a front of the text was appended
-pub record AppendsFront (old new : Printed) (text : List ℕ) : Type 0 where
-  pub count : ℕ
-  pub appends : Appends old new (take count text)
-
--- the text was printed, after Device and NoMemory a front of it
+-- the text was printed, after Device and NoMemory a prefix of it
 abbrev pub Prints : Outcome → List ℕ → Printed → Printed → Type 0
-Prints Device text old new = AppendsFront old new text
-Prints NoMemory text old new = AppendsFront old new text
+Prints Device text old new = AppendsPrefix old new text
+Prints NoMemory text old new = AppendsPrefix old new text
 Prints _ text old new = Appends old new text
 
 -- what is due of a comparison and of a splice is said of files that hold bytes, and that of any other command of all

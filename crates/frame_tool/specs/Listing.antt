@@ -1,25 +1,12 @@
 -- The text that `list` prints: the channels of a file, a line for each name.
-use Rattle.std.specs.Prelude.{ℕ, ◌==◌, ◌/◌, ◌%◌, nat_le, ◌&&◌, not, Bool, false, if◌then◌else◌}
-use Rattle.std.specs.Prelude.{List, [], ◌∷◌, ◌++◌, length, codes}
+use Rattle.std.specs.Prelude.{ℕ, List, [], ◌∷◌, ◌++◌, length, codes}
 use Rattle.std.specs.List.{flat_map}
-use Rattle.std.specs.Fmt.{decimal, digit_glyph}
+use Rattle.std.specs.Fmt.{decimal}
 use Rattle.contents_table.specs.declared.kind.Kind.{Kind}
 use Rattle.contents_table.specs.declared.kind.Kind.TheVariants.{Adc, Proc, Sim, Ser}
 use Rattle.contents_table.specs.declared.names.Listed.{Listed}
 use Rattle.contents_table.specs.Built.{Built, listed_of}
-
--- a printable character of ASCII, other than `"` and `\`
-abbrev pub is_plain : ℕ → Bool
-is_plain byte = nat_le 32 byte && nat_le byte 126 && not (byte == 34) && not (byte == 92)
-
--- a byte as it is printed: itself, or `\x` and two hexadecimal digits
-abbrev pub escaped_byte : ℕ → List ℕ
-escaped_byte byte =
-    if is_plain byte then byte ∷ []
-    else codes "\\x" ++ (digit_glyph false (byte / 16) ∷ digit_glyph false (byte % 16) ∷ [])
-
-abbrev pub escaped : List ℕ → List ℕ
-escaped bytes = flat_map escaped_byte bytes
+use Rattle.dumper.specs.Printed.{escaped}
 
 abbrev pub kind_name : Kind → List ℕ
 kind_name Adc = codes "adc"

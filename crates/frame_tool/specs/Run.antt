@@ -1,7 +1,7 @@
 -- What a run does, by the reply that is due: the clauses that all commands share.
 use Rattle.std.specs.Prelude.{◌≡◌, ℕ, ◌+◌, ◌<◌, ◌≤◌, ◌⊎◌, ⊤, Bool, true, false, List, length, take, Option, Some, None}
 use Rattle.frame_outside.specs.Counts.{Rose}
-use Rattle.frame_outside.specs.Shelf.{Files, Outside, Told}
+use Rattle.frame_outside.specs.Shelf.{Files, Outside, Told, holding}
 use Rattle.frame_outside.specs.Sink.{Output as Printed}
 use Rattle.splicer.specs.Left.{LeavesFile}
 use Rattle.frame_reader.specs.Gives.{HoldBytes}
@@ -10,7 +10,8 @@ use Rattle.splicer.specs.Drawn.{DrawsInAll}
 use Rattle.frame_tool.specs.declared.outcome.Outcome.{Outcome}
 use Rattle.frame_tool.specs.declared.outcome.Outcome.TheVariants.{Usage, Device, NoMemory}
 use Rattle.frame_tool.specs.Words.{Form, SpliceFiles, command_of, output_of}
-use Rattle.frame_tool.specs.Due.{Reply, Output, Nothing, Bytes, IsDue, IsAnswer, IsAmong, Prints}
+use Rattle.sample_file.specs.Made.{LeavesPrefix}
+use Rattle.frame_tool.specs.Due.{Reply, Output, Nothing, Bytes, Made, IsDue, IsAnswer, IsAmong, Prints}
 
 -- the outside or memory failed
 abbrev pub has_failed : Outcome → Bool
@@ -18,10 +19,15 @@ has_failed Device = true
 has_failed NoMemory = true
 has_failed outcome = false
 
--- what the files are then
+-- what the files are then; after a refusal a file that is made is as it was, or holds a prefix of the bytes
+abbrev pub LeavesMade : Bool → Files → Option Files → List ℕ → List ℕ → Type 0
+LeavesMade true files new to bytes = (new ≡ Some files) ⊎ LeavesPrefix files new to bytes
+LeavesMade false files new to bytes = new ≡ Some (holding to bytes files)
+
 abbrev pub Leaves : Files → Option Files → Outcome → Output → Type 0
 Leaves files new outcome Nothing = new ≡ Some files
 Leaves files new outcome (Bytes to whole bytes) = LeavesFile (has_failed outcome) files new to whole bytes
+Leaves files new outcome (Made to bytes) = LeavesMade (has_failed outcome) files new to bytes
 
 -- The slots that were given before and the files stay, but for the file that is written: no such slot writes it any
 -- more.

@@ -1,8 +1,8 @@
 -- What the parts of a walk find and do.
-use Rattle.std.specs.Prelude.{◌≡◌, ℕ, ◌+◌, ◌-◌, ◌≤◌, nat_le, if◌then◌else◌, List, [], ◌++◌, length, take, IsSome}
+use Rattle.std.specs.Prelude.{◌≡◌, ℕ, ◌+◌, ◌-◌, ◌≤◌, nat_le, if◌then◌else◌, List, [], ◌++◌, length, take}
 use Rattle.std.specs.List.{concat}
 use Rattle.scalar_types.specs.declared.Order.{Order}
-use Rattle.frame_outside.specs.Shelf.{Outside, Told}
+use Rattle.frame_outside.specs.Shelf.{Outside}
 use Rattle.frame_outside.specs.SlotReader.{Buffered, Draws, Advances}
 use Rattle.file_grammar.specs.declared.reason.Reason.{Reason}
 use Rattle.frame_tool.specs.declared.verdict.Verdict.{Verdict}
@@ -58,12 +58,3 @@ pub record FaultAfter (order : Order) (rest : List ℕ) (at : ℕ) (reason : Rea
 abbrev pub FindsOn : Order → List ℕ → Verdict → Type 0
 FindsOn order rest (Sound told count) = (told ≡ order) × Stood order rest (length rest) count
 FindsOn order rest (Wrong at reason) = FaultAfter order rest at reason
-
--- at most one slot was given, and beside it and the counts a shelf is as it was; a miss is a name that is not held
-pub record ReadsOneFile (old new : Outside) (name : List ℕ) : Type 0 where
-  pub faults : old.faults ≤ new.faults
-  pub misses : old.misses ≤ new.misses
-  pub missed : Told old.files (λ held. IsSome (held name) → new.misses ≡ old.misses)
-  pub slots : take (length old.slots) new.slots ≡ old.slots
-  pub given : length new.slots ≤ length old.slots + 1
-  pub files : new.files ≡ old.files

@@ -4,7 +4,8 @@ ghost use Rattle.std.specs.Prelude.{◌≡◌, ◌≢◌, IfOk};
 ghost use Rattle.std.specs.String.{string_bytes};
 ghost use Rattle.frame_outside.specs.Counts.{Rose};
 ghost use Rattle.frame_tool.specs.Outcome.{line_of};
-ghost use Rattle.frame_tool.specs.Due.{IsAnswer, Prints, order_name, state_name, walk_text, walk_reply};
+ghost use Rattle.frame_tool.specs.Due.{IsAnswer, Prints, state_name, walk_text, walk_reply};
+ghost use Rattle.dumper.specs.Lines.{order_name};
 ghost use Rattle.frame_tool.specs.Due.{check_text, report_text, finding_reply};
 
 use crate::judgement::{Finding, Report};

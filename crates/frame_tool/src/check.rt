@@ -4,7 +4,7 @@ ghost use Rattle.std.specs.Prelude.{◌≡◌, IfOk, None, IsErrOf};
 ghost use Rattle.frame_outside.specs.Counts.{Rose};
 ghost use Rattle.frame_outside.specs.Shelf.{Told};
 ghost use Rattle.frame_tool.specs.Check.{IsFinding};
-ghost use Rattle.frame_tool.specs.WalkSteps.{ReadsOneFile};
+ghost use Rattle.dumper.specs.Due.{ReadsOneFile};
 
 use crate::judgement::Finding;
 use file_content::read_contents;

@@ -1,7 +1,11 @@
 //! The words of the command line.
 
 ghost use Rattle.std.specs.Prelude.{◌≡◌, option_map};
-ghost use Rattle.frame_tool.specs.Words.{command_of, form_of, single, compared, copied, spliced, apart, texts};
+ghost use Rattle.std.specs.Str.{all_ascii_digits};
+ghost use Rattle.frame_tool.specs.Words.{command_of, form_of, single, compared, copied, spliced, apart, made};
+ghost use Rattle.frame_tool.specs.Words.{frames_told, has_leading_zero, texts};
+
+use sample_file::FRAMES_AT_MOST;
 
 /// A command, read from the words of the command line.
 #[derive(Clone, Copy)]
@@ -16,6 +20,10 @@ pub enum Command<'a> {
     Same { first: &'a str, second: &'a str },
     /// `splice OUT FILES`: writes the frames of all files; `copy FILE OUT` is that of one file.
     Splice { to: &'a str, from: &'a [String] },
+    /// `dump FILE`: prints every structure.
+    Dump { file: &'a str },
+    /// `make N OUT`: writes a sample file of so many frames, 100,000 at most, and checks it.
+    Make { frames: u32, to: &'a str },
 }
 
 /// The command that the words are; `None` exactly where they are none.
@@ -38,6 +46,10 @@ pub fn read_words(words: &[String]) -> Option<Command<'_>>
         "same" => compared(words),
         "copy" => copied(words),
         "splice" => spliced(words),
+        "dump" => Some(Command::Dump {
+            file: single(words)?,
+        }),
+        "make" => made(words),
         _ => None,
     }
 }
@@ -96,4 +108,45 @@ fn apart<'a>(to: &'a str, from: &'a [String]) -> Option<Command<'a>>
     } else {
         Some(Command::Splice { to, from })
     }
+}
+
+/// `N OUT`.
+fn made(words: &[String]) -> Option<Command<'_>>
+    ensures { option_map form_of result ≡ made (texts words.now) }
+{
+    match words {
+        [frames, to] => Some(Command::Make {
+            frames: frames_told(frames.as_str())?,
+            to: to.as_str(),
+        }),
+        _ => None,
+    }
+}
+
+/// The number of frames that a word tells: in decimal digits without a leading zero, at most 100,000.
+fn frames_told(word: &str) -> Option<u32>
+    ensures { result ≡ frames_told word.now }
+{
+    if word.is_empty() || has_leading_zero(word.as_bytes()) || !are_digits(word.as_bytes()) {
+        return None;
+    }
+    let frames = word.parse::<u32>().ok()?;
+    if frames > FRAMES_AT_MOST {
+        return None;
+    }
+    Some(frames)
+}
+
+/// Whether it has more than one byte and begins with a zero.
+fn has_leading_zero(word: &[u8]) -> bool
+    ensures { result ≡ has_leading_zero word.now }
+{
+    matches!(word, [b'0', _, ..])
+}
+
+/// Whether all of it are decimal digits.
+fn are_digits(word: &[u8]) -> bool
+    ensures { result ≡ all_ascii_digits word.now }
+{
+    word.iter().all(|byte| byte.is_ascii_digit())
 }

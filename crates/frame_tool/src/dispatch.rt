@@ -1,9 +1,9 @@
 //! One run of the program: from the words to the answer and the printed text.
 
-ghost use Rattle.std.specs.Prelude.{◌≢◌, ◌<◌, ◌+◌, ◌^◌, length, All, Some};
+ghost use Rattle.std.specs.Prelude.{◌≢◌, ◌<◌, ◌≤◌, ◌+◌, ◌^◌, length, All, Some};
 ghost use Rattle.std.specs.String.{string_bytes};
-ghost use Rattle.frame_tool.specs.Words.{WalkFile, SameFiles, SpliceFiles, texts};
-ghost use Rattle.frame_tool.specs.Due.{IsWalkDue, IsReportDue, IsSameDue, IsSpliceDue, form_asking};
+ghost use Rattle.frame_tool.specs.Words.{WalkFile, SameFiles, SpliceFiles, DumpFile, MakeFile, texts};
+ghost use Rattle.frame_tool.specs.Due.{IsWalkDue, IsReportDue, IsSameDue, IsSpliceDue, IsDumpDue, IsMakeDue, form_asking};
 ghost use Rattle.frame_tool.specs.Run.{Runs, Replies};
 
 use crate::answer::{answer_finding, answer_line, answer_walk};
@@ -13,14 +13,16 @@ use crate::judgement::Report;
 use crate::outcome::Outcome;
 use crate::walk::walk_file;
 use content_compare::{CompareError, compare_files};
+use dumper::{DumpError, dump_file};
 use frame_outside::{Shelf, ShelfError, Sink};
+use sample_file::make_file;
 use splicer::{SpliceError, splice};
 use std::alloc::Global;
 
 /// Does all that the words ask for: reads and writes the shelf, prints to the sink, and answers.
 ///
-/// An input is opened before anything is made or printed, and the text is printed in one piece. The sink then
-/// holds what it held and the text that is due, or after `Device` and `NoMemory` a front of it; the file that is
+/// An input is opened before anything is made or printed. The sink then holds what it held and the text that is due,
+/// or after `Device` and `NoMemory` a prefix of it; the file that is
 /// written holds what is due to it, or after these what it held or a part of that.
 pub fn run<S: Shelf, O: Sink>(
     alloc: Global,
@@ -38,6 +40,8 @@ pub fn run<S: Shelf, O: Sink>(
         Some(Command::List { file }) => run_report(alloc, Report::Channels, file, shelf, out),
         Some(Command::Same { first, second }) => run_same(alloc, first, second, shelf, out),
         Some(Command::Splice { to, from }) => run_splice(alloc, to, from, shelf, out),
+        Some(Command::Dump { file }) => run_dump(alloc, file, shelf, out),
+        Some(Command::Make { frames, to }) => run_make(alloc, frames, to, shelf, out),
     }
 }
 
@@ -108,5 +112,46 @@ fn run_splice<S: Shelf, O: Sink>(
         Ok(_) => Outcome::Done,
         Err(SpliceError::Device) => Outcome::Device,
         Err(error) => answer_line(alloc, out, Outcome::from(error)),
+    }
+}
+
+/// `dump FILE`.
+fn run_dump<S: Shelf, O: Sink>(alloc: Global, file: &str, shelf: &mut S, out: &mut O) -> Outcome
+    ensures { Replies (λ files reply. IsDumpDue (files file.now) reply) (Some (DumpFile file.now)) 1
+        (S.outside shelf.old) (S.outside shelf.new) (O.output out.old) (O.output out.new) result }
+{
+    match dump_file(alloc, shelf, file, out) {
+        Ok(()) => Outcome::Done,
+        Err(DumpError::Fault(fault)) => answer_line(
+            alloc,
+            out,
+            Outcome::Fault {
+                file: 0,
+                at: fault.at,
+                field: fault.field,
+                reason: fault.reason,
+            },
+        ),
+        Err(DumpError::Device) => Outcome::Device,
+        Err(DumpError::NoMemory) => Outcome::NoMemory,
+    }
+}
+
+/// `make N OUT`: the file is checked once it is made, and the summary of that is printed.
+fn run_make<S: Shelf, O: Sink>(
+    alloc: Global,
+    frames: u32,
+    to: &str,
+    shelf: &mut S,
+    out: &mut O,
+) -> Outcome
+    requires { frames ≤ 100000 }
+    ensures { Replies (λ files reply. IsMakeDue frames to.now reply) (Some (MakeFile frames to.now)) 2
+        (S.outside shelf.old) (S.outside shelf.new) (O.output out.old) (O.output out.new) result }
+{
+    match make_file(alloc, shelf, frames, to) {
+        Ok(_) => run_report(alloc, Report::Summary, to, shelf, out),
+        Err(ShelfError::Failed) => Outcome::Device,
+        Err(ShelfError::NoMemory) => Outcome::NoMemory,
     }
 }

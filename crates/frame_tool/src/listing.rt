@@ -3,10 +3,11 @@
 ghost use Rattle.std.specs.Prelude.{◌≡◌, ◌<◌, ◌++◌, length, IfOk, OnOk, IfSome, slice_get};
 ghost use Rattle.std.specs.String.{string_bytes};
 ghost use Rattle.contents_table.specs.Built.{listed_of};
-ghost use Rattle.frame_tool.specs.Listing.{is_plain, kind_name, escaped_byte, escaped, name_line, kind_text};
+ghost use Rattle.frame_tool.specs.Listing.{kind_name, name_line, kind_text};
 ghost use Rattle.frame_tool.specs.Listing.{list_text};
 
 use contents_table::{Kind, TableBuilder};
+use dumper::push_escaped;
 use std::alloc::{AllocError, Global};
 use std::fmt::Write;
 
@@ -59,32 +60,4 @@ fn name_of_kind(kind: Kind) -> &'static str
         Kind::Sim => "sim",
         Kind::Ser => "ser",
     }
-}
-
-/// Appends bytes as they are printed.
-fn push_escaped(text: &mut String, bytes: &[u8]) -> Result<(), AllocError>
-    ensures { OnOk result (string_bytes text.new ≡ string_bytes text.old ++ escaped bytes.now) }
-{
-    for byte in bytes {
-        push_byte(text, *byte)?;
-    }
-    Ok(())
-}
-
-/// Appends a byte as it is printed: itself, or by its number.
-fn push_byte(text: &mut String, byte: u8) -> Result<(), AllocError>
-    ensures { OnOk result (string_bytes text.new ≡ string_bytes text.old ++ escaped_byte byte) }
-{
-    if is_plain(byte) {
-        text.push(char::from(byte))
-    } else {
-        write!(text, "\\x{byte:02x}")
-    }
-}
-
-/// Whether a byte is printed as itself: a printable character of ASCII, other than a quote and a backslash.
-fn is_plain(byte: u8) -> bool
-    ensures { result ≡ is_plain byte }
-{
-    matches!(byte, b' '..=b'~') && byte != b'"' && byte != b'\\'
 }

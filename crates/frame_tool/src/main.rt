@@ -23,7 +23,11 @@ mod tests_of_check;
 #[cfg(test)]
 mod tests_of_copies;
 #[cfg(test)]
+mod tests_of_dumps;
+#[cfg(test)]
 mod tests_of_frames;
+#[cfg(test)]
+mod tests_of_making;
 #[cfg(test)]
 mod tests_of_reader;
 #[cfg(test)]

@@ -5,7 +5,8 @@ ghost use Rattle.frame_outside.specs.Counts.{Rose};
 ghost use Rattle.frame_outside.specs.Shelf.{Told, IsSource};
 ghost use Rattle.frame_outside.specs.SlotReader.{Draws, to_come};
 ghost use Rattle.frame_tool.specs.Walk.{IsVerdict, file_limit};
-ghost use Rattle.frame_tool.specs.WalkSteps.{IsFound, Moves, Judges, body_size_of, FindsOn, ReadsOneFile};
+ghost use Rattle.frame_tool.specs.WalkSteps.{IsFound, Moves, Judges, body_size_of, FindsOn};
+ghost use Rattle.dumper.specs.Due.{ReadsOneFile};
 
 use crate::verdict::Verdict;
 use file_grammar::{FILE_LIMIT, Reason, size_reason};

@@ -3,10 +3,11 @@ use Rattle.std.proofs.Common.{◌≡◌, ◌+◌, length, Option, Some, None, sy
 use Rattle.std.proofs.lemmas.List.{length-map}
 use Rattle.std.specs.String.{string_bytes}
 use Rattle.frame_tool.specs.declared.command.Command.{Command}
-use Rattle.frame_tool.specs.Words.{Form, WalkFile, CheckFile, ListFile, SameFiles, SpliceFiles, form_of}
-use Rattle.frame_tool.specs.Words.{command_of, texts}
+use Rattle.frame_tool.specs.Words.{Form, WalkFile, CheckFile, ListFile, SameFiles, SpliceFiles, DumpFile, MakeFile}
+use Rattle.frame_tool.specs.Words.{form_of, command_of, texts}
 use Rattle.frame_tool.proofs.Replies.{replies_usage, runs_by}
 use Rattle.frame_tool.proofs.SpliceWords.{two_words, splice_read, all_others}
+use Rattle.frame_tool.proofs.MakeWords.{make_read}
 use Rattle.frame_tool.proofs.dispatch.run.Goals as goal
 
 -- the words are a command that is known better
@@ -47,6 +48,20 @@ returns-in-Some-Same g c =
     runs_by words (Some (SameFiles c.in-Some-Same.first.now c.in-Some-Same.second.now)) 2 _ _ _ _ _ read
     (two_words words _ (sym read)) c.run_same.ensures
 
+pub run_splice-requires-clause-some : goal.run_splice-requires-clause-some
+run_splice-requires-clause-some g c =
+    let words = texts c.args.words.now in
+    let from = c.in-Some-Splice.from.now in
+    let read = read_as (command_of words) _ _ c.in-Some-Splice.ensures c.in-Some-Splice.field-0-is in
+    omega (arith, (splice_read words _ _ (sym read)).some, length-map from string_bytes)
+
+pub run_splice-requires-clause-few : goal.run_splice-requires-clause-few
+run_splice-requires-clause-few g c =
+    let words = texts c.args.words.now in
+    let from = c.in-Some-Splice.from.now in
+    let read = read_as (command_of words) _ _ c.in-Some-Splice.ensures c.in-Some-Splice.field-0-is in
+    omega (arith, (splice_read words _ _ (sym read)).few, length-map from string_bytes)
+
 pub run_splice-requires-clause-apart : goal.run_splice-requires-clause-apart
 run_splice-requires-clause-apart g c =
     let words = texts c.args.words.now in
@@ -61,3 +76,23 @@ returns-in-Some-Splice g c =
     let more = (splice_read words _ _ (sym read)).enough in
     runs_by words (Some (SpliceFiles c.in-Some-Splice.to.now (texts from))) (length from + 1) _ _ _ _ _ read
     (omega (arith, more, length-map from string_bytes)) c.run_splice.ensures
+
+pub returns-in-Some-Dump : goal.returns-in-Some-Dump
+returns-in-Some-Dump g c =
+    let words = texts c.args.words.now in
+    let read = read_as (command_of words) _ _ c.in-Some-Dump.ensures c.in-Some-Dump.field-0-is in
+    runs_by words (Some (DumpFile c.in-Some-Dump.file.now)) 1 _ _ _ _ _ read
+    (omega (arith, two_words words _ (sym read))) c.run_dump.ensures
+
+pub run_make-requires : goal.run_make-requires
+run_make-requires g c =
+    let words = texts c.args.words.now in
+    let read = read_as (command_of words) _ _ c.in-Some-Make.ensures c.in-Some-Make.field-0-is in
+    make_read words c.in-Some-Make.frames c.in-Some-Make.to.now (sym read)
+
+pub returns-in-Some-Make : goal.returns-in-Some-Make
+returns-in-Some-Make g c =
+    let words = texts c.args.words.now in
+    let read = read_as (command_of words) _ _ c.in-Some-Make.ensures c.in-Some-Make.field-0-is in
+    runs_by words (Some (MakeFile c.in-Some-Make.frames c.in-Some-Make.to.now)) 2 _ _ _ _ _ read
+    (two_words words _ (sym read)) c.run_make.ensures
