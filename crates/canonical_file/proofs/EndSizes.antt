@@ -32,7 +32,8 @@ use Rattle.canonical_file.specs.Bytes.{value_bytes, body_bytes, structure_bytes}
 use Rattle.canonical_file.specs.Records.{entry_fields}
 use Rattle.canonical_file.specs.Written.{end_told, end_bytes}
 
-pub structure-size : (class instance : ℕ) (body : List ℕ) → length (structure_bytes class instance body) ≡ 14 + length body
+pub structure-size : (class instance : ℕ) (body : List ℕ)
+    → length (structure_bytes class instance body) ≡ 14 + length body
 structure-size class instance body =
     let common : Common =
     record { length = 14 + length body; check = 0; class = class; instance = instance } in

@@ -13,14 +13,14 @@ use Rattle.contents_table.specs.Built.{Built}
 use Rattle.canonical_file.specs.declared.closing.Closing.{Closing}
 use Rattle.canonical_file.specs.Ordered.{frame_graph, ordered}
 use Rattle.canonical_file.specs.Records.{record_bytes, records_of}
-use Rattle.canonical_file.specs.Written.{begun, frame_part, after_frame, after_frames, canonical_file}
+use Rattle.canonical_file.specs.Written.{header_alone, frame_part, after_frame, after_frames, canonical_file}
 use Rattle.canonical_file.proofs.Sample.{computing, element, entry, check_sum, table_elements, file_end_entry, closing}
 use Rattle.canonical_file.proofs.Sample.{row, null, header, raw_data, detector, channel, vector, frame_with}
 use Rattle.canonical_file.proofs.Sample.{frame_of_channels, frame}
 
 -- what a table lists of a frame that stands first
 abbrev listed_of_first : Frame → Built
-listed_of_first f = (after_frame begun f).built
+listed_of_first f = (after_frame header_alone f).built
 
 -- the roots, and what the records of an order lead to, each once: an order is what follows it
 abbrev followed : Frame → List ℕ → List ℕ
@@ -36,12 +36,12 @@ twice_size : length (canonical_file closing (frame ∷ frame ∷ [])) ≡ 4268
 unfolding computing
 twice_size = refl
 
-twice_heads : (after_frames begun (frame ∷ frame ∷ [])).built.heads ≡ 569 ∷ 2682 ∷ []
+twice_heads : (after_frames header_alone (frame ∷ frame ∷ [])).built.heads ≡ 569 ∷ 2682 ∷ []
 unfolding computing
 twice_heads = refl
 
 -- the part of the second one is its records alone, with the instances and links of the first
-second_part : frame_part (after_frame begun frame) frame ≡ flat_map record_bytes (records_of frame)
+second_part : frame_part (after_frame header_alone frame) frame ≡ flat_map record_bytes (records_of frame)
 unfolding computing
 second_part = refl
 

@@ -1,7 +1,7 @@
 -- Canonical files without a frame, by their bytes and by their sizes.
 use Rattle.std.proofs.Common.{◌≡◌, ℕ, List, [], ◌∷◌, ◌++◌, None, codes, length, refl}
 use Rattle.canonical_file.specs.declared.closing.Closing.{Closing}
-use Rattle.canonical_file.specs.Written.{Written, begun, closing_part, canonical_file}
+use Rattle.canonical_file.specs.Written.{Written, header_alone, closing_part, canonical_file}
 use Rattle.canonical_file.proofs.Sample.{computing, hex, table_entry, file_end_entry, end_alone, closing}
 
 -- no frame, and the end of the file alone
@@ -40,7 +40,7 @@ commented_size = refl
 -- entries that stand already do not stand again: the table's record of 34 bytes and the end's of 38
 standing : Written
 unfolding computing
-standing = record begun { entries = table_entry ∷ file_end_entry ∷ [] }
+standing = record header_alone { entries = table_entry ∷ file_end_entry ∷ [] }
 
 closing_size : length (closing_part standing closing) ≡ 72
 unfolding computing standing

@@ -6,7 +6,7 @@ use Rattle.std.specs.Option.{option_map, option_map_or}
 use Rattle.std.specs.Str.{bytes_eq}
 use Rattle.std.proofs.lemmas.List.{map-append}
 use Rattle.type_text.specs.declared.types.ElementType.{ElementType}
-use Rattle.type_text.specs.TypeText.{printed, type_of}
+use Rattle.type_text.specs.TypeText.{printed_type, type_of}
 use Rattle.type_text.proofs.PrintedLemmas.{printed-read}
 use Rattle.dictionary.specs.declared.entries.Element.{Element}
 use Rattle.dictionary.specs.declared.entries.Entry.{Entry}
@@ -55,8 +55,8 @@ pub printed-twice : (e : Element) → printed_element (printed_element e) ≡ pr
 printed-twice e = by e.ty
   where
     by : (o : Option ElementType)
-        → record e { ty = o; text = option_map_or printed o (option_map_or printed o e.text) }
-        ≡ record e { ty = o; text = option_map_or printed o e.text }
+        → record e { ty = o; text = option_map_or printed_type o (option_map_or printed_type o e.text) }
+        ≡ record e { ty = o; text = option_map_or printed_type o e.text }
     by None = refl
     by (Some ty) = refl
 
@@ -71,6 +71,6 @@ entry-twice e = ap (λ es. record e { elements = es }) (elements-twice e.element
 pub printed-reads : (e : Element) → IsRead e → IsRead (printed_element e)
 printed-reads e is = by e.ty is
   where
-    by : (o : Option ElementType) → o ≡ type_of e.text → o ≡ type_of (option_map_or printed o e.text)
+    by : (o : Option ElementType) → o ≡ type_of e.text → o ≡ type_of (option_map_or printed_type o e.text)
     by None read = read
     by (Some ty) read = sym (printed-read ty (e.text, sym read))

@@ -4,7 +4,8 @@ use Rattle.std.proofs.Common.{ℕ, ◌*◌, ◌+◌, ◌-◌, cond, ltb, List, [
 use Rattle.std.specs.Fmt.{digits}
 use Rattle.scalar_types.specs.Number.{little_bytes}
 use Rattle.type_text.specs.Tokens.{tokens}
-use Rattle.type_text.specs.TypeText.{plain_bases, base_of, dims_of, pointed_of, base_in_front, type_of_tokens, printed}
+use Rattle.type_text.specs.TypeText.{plain_bases, base_of, dims_of, pointed_of, base_in_front, type_of_tokens}
+use Rattle.type_text.specs.TypeText.{printed_type}
 use Rattle.type_text.specs.TypeText.{type_of}
 use Rattle.record_values.specs.declared.values.Value.{Value}
 use Rattle.record_values.specs.declared.values.Value.TheVariants as value
@@ -172,5 +173,5 @@ unfoldable pub computing : Type 0
 unfolding hex pairs digit element entry check_sum header_entry raw_entry channel_entry vector_entry detector_entry
     frame_end_entry table_elements table_entry file_end_entry end_alone closing row null one header raw_data detector
     channel vector frame_with frame_of_channels frame little_bytes digits tokens plain_bases base_of dims_of pointed_of
-    base_in_front type_of_tokens printed type_of layout_of channels_from with_name numbers_below values_after
+    base_in_front type_of_tokens printed_type type_of layout_of channels_from with_name numbers_below values_after
 computing = Unit {0}

@@ -12,7 +12,7 @@ use Rattle.frame_content.specs.Frames.{Frame}
 use Rattle.canonical_file.specs.declared.closing.Closing.{Closing}
 use Rattle.canonical_file.specs.Records.{Record, record_bytes, records_of, new_entry, with_record, Piece}
 use Rattle.canonical_file.specs.Records.{piece_of, piece_bytes, pieces_of, record_places}
-use Rattle.canonical_file.specs.Written.{Written, begun, frame_pieces, frame_part, after_frame, after_frames}
+use Rattle.canonical_file.specs.Written.{Written, header_alone, frame_pieces, frame_part, after_frame, after_frames}
 use Rattle.canonical_file.specs.Written.{frame_parts}
 use Rattle.canonical_file.specs.Written.{table_piece, after_table, end_bytes, end_size, closed_size, way_back}
 use Rattle.contents_table.specs.Built.{place_of}
@@ -34,10 +34,10 @@ header-size : length header_bytes ≡ 40
 unfolding little_bytes
 header-size = refl
 
-pub head-size : (frames : List Frame) → length (canonical_head frames) ≡ (after_frames begun frames).size
+pub head-size : (frames : List Frame) → length (canonical_head frames) ≡ (after_frames header_alone frames).size
 head-size frames =
-    let both = length-append header_bytes (flat_map (λ part. part) (frame_parts begun frames)) in
-    let parts = parts-size begun frames in
+    let both = length-append header_bytes (flat_map (λ part. part) (frame_parts header_alone frames)) in
+    let parts = parts-size header_alone frames in
     omega (arith, both, parts, header-size)
 
 -- ---- files
@@ -58,9 +58,9 @@ closing-size w c closing =
     )
 
 pub file-size : (c : Closing) (frames : List Frame) → closes c.end.elements ≡ true
-    → length (canonical_file c frames) ≡ closed_size (after_table (after_frames begun frames) c) c.end
+    → length (canonical_file c frames) ≡ closed_size (after_table (after_frames header_alone frames) c) c.end
 file-size c frames closing =
-    let last : Written = after_frames begun frames in
+    let last : Written = after_frames header_alone frames in
     length-append (canonical_head frames) (closing_part last c)
     ∙ ap (λ n. n + length (closing_part last c)) (head-size frames)
     ∙ closing-size last c closing

@@ -6,7 +6,7 @@ use Rattle.std.specs.List.{AllByRecursion, enumerate_from, take-map}
 use Rattle.std.specs.Option.{option_map_or}
 use Rattle.std.proofs.lemmas.List.{map-append, append-nil}
 use Rattle.std.proofs.lemmas.List.Sums.{sum_by-cons}
-use Rattle.record_values.specs.Links.{linked}
+use Rattle.record_values.specs.Links.{with_links}
 use Rattle.dictionary.specs.declared.entries.Entry.{Entry}
 use Rattle.frame_content.specs.Frames.{Row, Frame, no_row}
 use Rattle.contents_table.specs.declared.kind.Kind.{Kind}
@@ -63,7 +63,7 @@ rows-under entries f n (r ∷ rows) =
     λ i. record {
       entry = entry_under entries r.label.entry;
       instance = instance-same entries f n i;
-      values = linked r.label.values (map (link-same entries f i) r.links);
+      values = with_links r.label.values (map (link-same entries f i) r.links);
     } ∷ rows-under entries f (n + 1) rows i
 
 records-under : (entries : List Entry) (f : Frame)

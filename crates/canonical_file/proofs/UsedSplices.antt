@@ -18,7 +18,7 @@ use Rattle.dictionary.specs.Same.{AreRead, same_entries}
 use Rattle.frame_content.specs.Frames.{Frame}
 use Rattle.canonical_file.specs.declared.closing.Closing.{Closing}
 use Rattle.canonical_file.specs.Records.{Record, records_of, added_by, with_entry, with_record, entries_after}
-use Rattle.canonical_file.specs.Written.{Written, begun, after_frame, after_frames, closing_part}
+use Rattle.canonical_file.specs.Written.{Written, header_alone, after_frame, after_frames, closing_part}
 use Rattle.canonical_file.specs.Written.{canonical_head, canonical_file}
 use Rattle.canonical_file.specs.Contents.{Content}
 use Rattle.canonical_file.specs.Splices.{closing_entries, entries_used, clashes, clash_from, NoneClashes, frame_under}
@@ -134,22 +134,22 @@ agree-take w (suc n) (f ∷ fs) agree = (agree.0, agree-take (after_frame w f) n
 -- ---- splices
 
 agree-splice : (first : Content) (others : List Content) (c : Content) (s : IsSplice first others c)
-    → All HasReadEntries (s.front ++ s.back) → AgreeAll begun (s.front ++ s.back)
+    → All HasReadEntries (s.front ++ s.back) → AgreeAll header_alone (s.front ++ s.back)
 agree-splice first others c s read =
     let both = parts HasReadEntries s.front s.back read in
     let front = recursion_from_All HasReadEntries s.front both.0 in
     let back = recursion_from_All HasReadEntries s.back both.1 in
-    agree-append begun s.front s.back (agree-all None begun s.front none-read front s.front_agrees)
-    (agree-all (Some first.closing) (after_frames begun s.front) s.back
-    (read-frames begun s.front none-read front) back s.back_agrees)
+    agree-append header_alone s.front s.back (agree-all None header_alone s.front none-read front s.front_agrees)
+    (agree-all (Some first.closing) (after_frames header_alone s.front) s.back
+    (read-frames header_alone s.front none-read front) back s.back_agrees)
 
 pub splice-written : (first : Content) (others : List Content) (c : Content) (s : IsSplice first others c)
     → All HasReadEntries (s.front ++ s.back)
     → canonical_file c.closing c.frames ≡ canonical_file first.closing (s.front ++ s.back)
 splice-written first others c s read =
     let frames : List Frame = s.front ++ s.back in
-    let all : List Entry = (after_frames begun frames).entries in
-    let same = frames-same begun all [] frames (sym (append-nil all)) (agree-splice first others c s read) in
+    let all : List Entry = (after_frames header_alone frames).entries in
+    let same = frames-same header_alone all [] frames (sym (append-nil all)) (agree-splice first others c s read) in
     ap (λ (c : Content). canonical_file c.closing c.frames) s.is
     ∙ (λ i. (header_bytes ++ flat_map (λ part. part) (same.0 i)) ++ closing_part (same.1 i) first.closing)
 
@@ -158,14 +158,14 @@ pub splice-begun : (first : Content) (others : List Content) (c : Content) (s : 
     → canonical_head (take n c.frames) ≡ canonical_head (take n (s.front ++ s.back))
 splice-begun first others c s n read =
     let frames : List Frame = s.front ++ s.back in
-    let all : List Entry = (after_frames begun frames).entries in
-    let front = frames-front (after_frames begun (take n frames)) (drop n frames) in
-    let split : all ≡ (after_frames begun (take n frames)).entries ++ front.0 =
-    ap (λ frames. (after_frames begun frames).entries) (sym (take-append-drop n frames))
-    ∙ ap (λ (w : Written). w.entries) (fold-append after_frame begun (take n frames) (drop n frames))
+    let all : List Entry = (after_frames header_alone frames).entries in
+    let front = frames-front (after_frames header_alone (take n frames)) (drop n frames) in
+    let split : all ≡ (after_frames header_alone (take n frames)).entries ++ front.0 =
+    ap (λ frames. (after_frames header_alone frames).entries) (sym (take-append-drop n frames))
+    ∙ ap (λ (w : Written). w.entries) (fold-append after_frame header_alone (take n frames) (drop n frames))
     ∙ front.1 in
-    let same = frames-same begun all front.0 (take n frames) split
-    (agree-take begun n frames (agree-splice first others c s read)) in
+    let same = frames-same header_alone all front.0 (take n frames) split
+    (agree-take header_alone n frames (agree-splice first others c s read)) in
     ap (λ (c : Content). canonical_head (take n c.frames)) s.is
     ∙ ap canonical_head (take-map (frame_under all) n frames)
     ∙ ap (λ parts. header_bytes ++ flat_map (λ part. part) parts) same.0

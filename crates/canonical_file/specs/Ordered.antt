@@ -2,7 +2,7 @@
 use Rattle.std.specs.Prelude.{◌≡◌, ℕ, ◌==◌, Bool, List, map, take, count_by, Option, Some, None, filter_map}
 use Rattle.type_text.specs.declared.types.Link.{Link}
 use Rattle.record_values.specs.declared.values.Value.{Value}
-use Rattle.record_values.specs.Links.{linked}
+use Rattle.record_values.specs.Links.{with_links}
 use Rattle.rooted_graph.specs.SameGraph.{Labelled, SameGraph}
 use Rattle.rooted_graph.specs.BreadthOrder.{number_of, IsBreadthOrder}
 use Rattle.rooted_graph.specs.InOrder.{renumbered}
@@ -62,4 +62,4 @@ new_link f (Some k) = record { class = class_at f k; instance = instance_at f k 
 
 -- the values of a record with such links
 abbrev pub new_values : Frame → Row → List Value
-new_values f r = linked r.label.values (map (new_link f) r.links)
+new_values f r = with_links r.label.values (map (new_link f) r.links)

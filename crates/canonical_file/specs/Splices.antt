@@ -13,7 +13,7 @@ use Rattle.frame_content.specs.Frames.{Row, Frame}
 use Rattle.canonical_file.specs.declared.closing.Closing.{Closing}
 use Rattle.canonical_file.specs.Ordered.{IsInOrder}
 use Rattle.canonical_file.specs.Records.{Record, records_of, with_record}
-use Rattle.canonical_file.specs.Written.{Written, begun, after_frame, after_frames}
+use Rattle.canonical_file.specs.Written.{Written, header_alone, after_frame, after_frames}
 use Rattle.canonical_file.specs.Contents.{Content}
 
 -- ---- clashes
@@ -66,7 +66,7 @@ frame_under entries f = record f { rows = map (row_under entries) f.rows; end = 
 
 -- Frames as they are written one after another: each class has the entry that is used first of it.
 abbrev pub as_used : List Frame → List Frame
-as_used frames = map (frame_under (after_frames begun frames).entries) frames
+as_used frames = map (frame_under (after_frames header_alone frames).entries) frames
 
 -- ---- splices
 
@@ -81,7 +81,7 @@ pub record IsSplice (first : Content) (others : List Content) (c : Content) : Ty
   pub back : List Frame
   pub front_in_order : AllZip IsInOrder first.frames front
   pub back_in_order : AllZip IsInOrder (frames_in others) back
-  pub front_agrees : NoneClashes None begun front
-  pub back_agrees : NoneClashes (Some first.closing) (after_frames begun front) back
+  pub front_agrees : NoneClashes None header_alone front
+  pub back_agrees : NoneClashes (Some first.closing) (after_frames header_alone front) back
   pub few : length (front ++ back) ≤ frames_limit
   pub is : c ≡ record { closing = first.closing; frames = as_used (front ++ back) }

@@ -29,8 +29,8 @@ pub record Written : Type 0 where
   pub frames : ℕ
 
 -- the header alone
-abbrev pub begun : Written
-begun = record { size = 40; entries = []; built = nothing_built; frames = 0 }
+abbrev pub header_alone : Written
+header_alone = record { size = 40; entries = []; built = nothing_built; frames = 0 }
 
 abbrev pub frame_pieces : Written → Frame → List Piece
 frame_pieces w f = pieces_of w.entries (records_of f)
@@ -127,7 +127,7 @@ closing_part w c =
 
 -- The canonical head of frames in their orders, and the canonical file.
 abbrev pub canonical_head : List Frame → List ℕ
-canonical_head frames = header_bytes ++ flat_map (λ part. part) (frame_parts begun frames)
+canonical_head frames = header_bytes ++ flat_map (λ part. part) (frame_parts header_alone frames)
 
 abbrev pub canonical_file : Closing → List Frame → List ℕ
-canonical_file closing frames = canonical_head frames ++ closing_part (after_frames begun frames) closing
+canonical_file closing frames = canonical_head frames ++ closing_part (after_frames header_alone frames) closing

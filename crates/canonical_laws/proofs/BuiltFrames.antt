@@ -68,7 +68,8 @@ name-within size name found (l ∷ more) here all =
     let added = found-within size found l here all.0 in
     let later = name-within size name found more here all.1 in
     elim (bytes_eq name l.name)
-    as (λ b. AllByRecursion (IsListedWithin size) (cond b (with_found found l ∷ more) (l ∷ with_name name found more))) [
+    as (λ b. AllByRecursion (IsListedWithin size)
+    (cond b (with_found found l ∷ more) (l ∷ with_name name found more))) [
       | true ↦ (added, all.1)
       | false ↦ (all.0, later)
     ]
@@ -76,7 +77,8 @@ name-within size name found (l ∷ more) here all =
 -- ---- one more channel of a kind
 
 -- the places of the frames stay
-heads-listed : (built : Built) (kind : Kind) (listed : List Listed) → (with_listed built kind listed).heads ≡ built.heads
+heads-listed : (built : Built) (kind : Kind) (listed : List Listed)
+    → (with_listed built kind listed).heads ≡ built.heads
 heads-listed built Adc listed = refl
 heads-listed built Proc listed = refl
 heads-listed built Sim listed = refl
@@ -84,7 +86,8 @@ heads-listed built Ser listed = refl
 
 -- what holds of the new list and of the old ones holds of each kind
 listed-each : (P : List Listed → Type 0) (built : Built) (kind : Kind) (listed : List Listed) → P listed
-    → ((other : Kind) → P (listed_of built other)) → (other : Kind) → P (listed_of (with_listed built kind listed) other)
+    → ((other : Kind) → P (listed_of built other)) → (other : Kind)
+    → P (listed_of (with_listed built kind listed) other)
 listed-each P built Adc listed new old Adc = new
 listed-each P built Adc listed new old Proc = old Proc
 listed-each P built Adc listed new old Sim = old Sim

@@ -14,7 +14,7 @@ use Rattle.scalar_types.specs.declared.Width.TheVariants.{One, Two, Four, Eight}
 use Rattle.type_text.specs.declared.types.Link.{Link as StructLink}
 use Rattle.record_values.specs.declared.values.Value.{Value}
 use Rattle.record_values.specs.declared.values.Value.TheVariants as value
-use Rattle.record_values.specs.Links.{links_of, linked_value, linked}
+use Rattle.record_values.specs.Links.{links_of, linked_value, with_links}
 use Rattle.rooted_graph.specs.BreadthOrder.{has}
 use Rattle.dictionary.specs.declared.entries.Entry.{Entry}
 use Rattle.layout_plan.specs.declared.fields.Form.{Form}
@@ -27,8 +27,10 @@ use Rattle.record_writer.specs.Fit.{IsShortText, FitsField}
 use Rattle.frame_content.specs.Labels.{Label}
 use Rattle.frame_content.specs.Frames.{Row, Frame, no_row, row_at, label_at}
 use Rattle.contents_table.specs.declared.kind.Kind.{Kind}
-use Rattle.contents_table.specs.Channels.{structure_of, next_field, name_field, link_number, end_of_link, if_named, target}
-use Rattle.contents_table.specs.Channels.{head_field, head, is_frame_header, header_of, upper, first_channel, next_channel}
+use Rattle.contents_table.specs.Channels.{structure_of, next_field, name_field, link_number, end_of_link, if_named}
+use Rattle.contents_table.specs.Channels.{target}
+use Rattle.contents_table.specs.Channels.{head_field, head, is_frame_header, header_of, upper, first_channel}
+use Rattle.contents_table.specs.Channels.{next_channel}
 use Rattle.contents_table.specs.Channels.{channels_from, channels, text_of, name_of, named_channel, named_channels}
 use Rattle.canonical_file.specs.Ordered.{new_link}
 use Rattle.canonical_laws.specs.Writable.{IsWritableFrame}
@@ -116,7 +118,7 @@ channels-within f kind lead =
 
 -- a text stays where links are put into the values
 text-linked : (vs : List Value) (links : List StructLink) (i : ℕ) (text : List ℕ)
-    → slice_get vs i ≡ Some (value.Text text) → slice_get (linked vs links) i ≡ Some (value.Text text)
+    → slice_get vs i ≡ Some (value.Text text) → slice_get (with_links vs links) i ≡ Some (value.Text text)
 text-linked [] links i text is = absurd (none-some (value.Text text) is)
 text-linked (v ∷ vs) links zero text is =
     ap (λ w. Some (linked_value w (take (length (links_of w)) links))) (same_Some v (value.Text text) is)
@@ -177,7 +179,7 @@ name-short : (dictionary : List Entry) (f : Frame) (k : ℕ) (name : List ℕ) �
     → k < length f.rows → name_of (label_at f k) ≡ Some name → IsShortText name
 name-short dictionary f k name w less is =
     let row : Row = row_at f k in
-    let values : List Value = linked row.label.values (map (new_link f) row.links) in
+    let values : List Value = with_links row.label.values (map (new_link f) row.links) in
     let one = (w.rows k less).writable in
     let found = name-value row.label name is in
     short-text (map number_of values) one.layout values found.0 name one.fits

@@ -15,7 +15,7 @@ use Rattle.file_grammar.proofs.Advance.{moves}
 use Rattle.file_grammar.proofs.Chains.{same_item}
 use Rattle.frame_content.specs.Frames.{Frame}
 use Rattle.canonical_file.specs.Ordered.{frame_graph, SameFrame, IsInOrder}
-use Rattle.canonical_file.specs.Written.{begun, frame_part, canonical_head}
+use Rattle.canonical_file.specs.Written.{header_alone, frame_part, canonical_head}
 use Rattle.canonical_file.proofs.OneOrder.{same_in_orders}
 use Rattle.canonical_file.proofs.SameOrder.{same_in_its_order}
 use Rattle.canonical_file.proofs.Sizes.{head-size}
@@ -52,10 +52,10 @@ same_to_end order file b (item ∷ items) (other ∷ others) last end left right
 
 -- a head stands up to its end
 head-alone : (dictionary : List Entry) (fs : List Frame) → AreWritten dictionary fs
-    → length (canonical_head fs) ≤ file_limit → HeadStands dictionary (canonical_head fs) begun nothing_yet fs
+    → length (canonical_head fs) ≤ file_limit → HeadStands dictionary (canonical_head fs) header_alone nothing_yet fs
 head-alone dictionary fs all limit =
     let same : canonical_head fs ++ [] ≡ canonical_head fs = append-nil (canonical_head fs) in
-    subst (λ xs. HeadStands dictionary xs begun nothing_yet fs) same
+    subst (λ xs. HeadStands dictionary xs header_alone nothing_yet fs) same
     (whole-head dictionary fs [] all (subst (λ xs. length xs ≤ file_limit) (sym same) limit))
 
 -- Heads that are equal bytes read back as the same frames.
@@ -63,8 +63,9 @@ pub same_heads : (dictionary other : List Entry) (fs gs : List Frame) → AreWri
     → length (canonical_head fs) ≤ file_limit → length (canonical_head gs) ≤ file_limit
     → canonical_head fs ≡ canonical_head gs → map as_read fs ≡ map as_read gs
 same_heads dictionary other fs gs left right limit also heads =
-    let one : HeadStands dictionary (canonical_head fs) begun nothing_yet fs = head-alone dictionary fs left limit in
-    let two : HeadStands other (canonical_head gs) begun nothing_yet gs = head-alone other gs right also in
+    let one : HeadStands dictionary (canonical_head fs) header_alone nothing_yet fs =
+    head-alone dictionary fs left limit in
+    let two : HeadStands other (canonical_head gs) header_alone nothing_yet gs = head-alone other gs right also in
     let P : List ℕ → Type 0 = λ xs. Stand Little xs nothing_yet (frames_items nothing_yet gs) (after_all nothing_yet gs)
     in
     let items : frames_items nothing_yet fs ≡ frames_items nothing_yet gs =
@@ -86,9 +87,9 @@ alone dictionary f o sound in_order writable =
 
 pub parts_tell : PartsTellFrames
 parts_tell dictionary other f g o p sound also_sound left right writable also_writable =
-    (there, λ same. ap (frame_part begun) (same_in_orders f g o p same left right))
+    (there, λ same. ap (frame_part header_alone) (same_in_orders f g o p same left right))
   where
-    there : frame_part begun o ≡ frame_part begun p → SameFrame f g
+    there : frame_part header_alone o ≡ frame_part header_alone p → SameFrame f g
     there same =
         let heads : canonical_head (o ∷ []) ≡ canonical_head (p ∷ []) =
         ap (λ part. header_bytes ++ (part ++ [])) same in

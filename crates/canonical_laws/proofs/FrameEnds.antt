@@ -17,7 +17,8 @@ use Rattle.file_grammar.specs.Item.{Item, Before, after_kind, after}
 use Rattle.file_grammar.specs.MayStand.{frames_limit, RecordMayStand, HasHeader, KindMayStand, Stand}
 use Rattle.item_reader.specs.State.{bodied_of}
 use Rattle.canonical_file.specs.Records.{Record, record_bytes}
-use Rattle.file_content.specs.Stored.{StoredFrame, brought, brought_in, frame_of_kind, frame_ended, table_of_kind}
+use Rattle.file_content.specs.Stored.{StoredFrame, structures_brought, brought_in, frame_of_kind, frame_ended}
+use Rattle.file_content.specs.Stored.{table_of_kind}
 use Rattle.file_content.specs.Stored.{table_here, seek_of_kind, seek_told}
 use Rattle.canonical_laws.specs.Writable.{IsWritableEntry, IsWritable}
 use Rattle.canonical_laws.proofs.Holding.{Holds}
@@ -84,8 +85,8 @@ pub brings-append : {X : Type 0} (from : Before → Structure → List X) (file 
 brings-append from file b mid [] more stand = ap (λ x. brings from x more) (sym stand)
 brings-append from file b mid (item ∷ items) more stand =
     let next : Before = after Little b item in
-    ap (λ xs. brought from b item ++ xs) (brings-append from file next mid items more stand.1)
-    ∙ sym (append_assoc (brought from b item) (brings from next items) (brings from mid more))
+    ap (λ xs. structures_brought from b item ++ xs) (brings-append from file next mid items more stand.1)
+    ∙ sym (append_assoc (structures_brought from b item) (brings from next items) (brings from mid more))
 
 -- a record with its entry brings what the record does
 pub brings-by : {X : Type 0} (from : Before → Structure → List X) (o : Option Entry) (b : Before) (r : Record)

@@ -2,13 +2,14 @@
 use Rattle.std.proofs.Common.{◌≡◌, ℕ, ◌+◌, ◌≤◌, List, [], ◌∷◌, length, refl, ap, arith, length-append}
 use Rattle.scalar_types.specs.declared.Order.{Order}
 use Rattle.file_grammar.specs.declared.kind.Kind.{Kind}
-use Rattle.file_grammar.specs.declared.kind.Kind.TheVariants.{FrSH, FrSE, FrameH, FrEndOfFrame, FrTOC, FrEndOfFile, Other}
+use Rattle.file_grammar.specs.declared.kind.Kind.TheVariants.{FrSH, FrSE, FrameH, FrEndOfFrame, FrTOC, FrEndOfFile}
+use Rattle.file_grammar.specs.declared.kind.Kind.TheVariants.{Other}
 use Rattle.file_grammar.specs.Structure.{Structure}
 use Rattle.file_grammar.specs.Kind.{kind_of}
 use Rattle.file_grammar.specs.Record.{weight_of}
 use Rattle.file_grammar.specs.Item.{Item, EntryItem, OtherItem, Before, after_kind, after}
 use Rattle.file_grammar.specs.MayStand.{frames_limit, KindMayStand, MayStand, Stand}
-use Rattle.file_content.specs.Stored.{brought, brought_in, frame_of_kind, frame_ended}
+use Rattle.file_content.specs.Stored.{structures_brought, brought_in, frame_of_kind, frame_ended}
 
 -- so many frames are counted, and they are within the limit
 pub record AreCounted (before after new : ℕ) : Type 0 where
@@ -29,7 +30,7 @@ kind-counted order b s weight Other few may = record { told = omega arith; few =
 
 item-counted : (order : Order) (file : List ℕ) (b : Before) (item : Item) → b.frames ≤ frames_limit
     → MayStand order file b item
-    → AreCounted b.frames (after order b item).frames (length (brought frame_ended b item))
+    → AreCounted b.frames (after order b item).frames (length (structures_brought frame_ended b item))
 item-counted order file b (EntryItem head run e) few may = record { told = omega arith; few = few }
 item-counted order file b (OtherItem s) few may =
     kind-counted order b s (weight_of order b.dictionary s) (kind_of b.dictionary s.class) few may.1.kind
@@ -48,7 +49,7 @@ stand-counted order file b last (item ∷ items) few stand =
         arith,
         here.told,
         rest.told,
-        length-append (brought frame_ended b item)
+        length-append (structures_brought frame_ended b item)
             (brought_in frame_ended order (after order b item) items),
       );
       few = rest.few;

@@ -6,7 +6,7 @@ use Rattle.std.specs.List.{AllByRecursion, enumerate_from, take-map, cons_option
 use Rattle.std.specs.Str.{bytes_eq}
 use Rattle.std.proofs.lemmas.List.{map-append, length-map, get_or-map}
 use Rattle.std.proofs.lemmas.List.Sums.{sum_by-cons}
-use Rattle.record_values.specs.Links.{linked}
+use Rattle.record_values.specs.Links.{with_links}
 use Rattle.dictionary.specs.declared.entries.Entry.{Entry}
 use Rattle.dictionary.specs.Dictionary.{entry_of}
 use Rattle.file_grammar.specs.declared.kind.Kind.{Kind}
@@ -148,7 +148,7 @@ record-is used f k less =
     λ i. record {
       entry = (row i).label.entry;
       instance = instance-same used f k i;
-      values = linked (row i).label.values (map (link i) (row i).links);
+      values = with_links (row i).label.values (map (link i) (row i).links);
     }
 
 records-are : (used : List Entry) (f : Frame) (n : ℕ) (rows : List Row)
@@ -159,7 +159,7 @@ records-are used f n (r ∷ rows) =
     λ i. record {
       entry = entry_under used r.label.entry;
       instance = instance-same used f n i;
-      values = linked r.label.values (map (link-same used f i) r.links);
+      values = with_links r.label.values (map (link-same used f i) r.links);
     } ∷ records-are used f (n + 1) rows i
 
 all-records-are : (used : List Entry) (f : Frame)

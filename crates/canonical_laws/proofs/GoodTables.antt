@@ -32,7 +32,8 @@ use Rattle.file_content.specs.Contents.{built_of, listed_by, if_frames, IsJudged
 use Rattle.file_content.specs.Contents.{seek_or_none, AreContents}
 use Rattle.canonical_file.specs.declared.closing.Closing.{Closing}
 use Rattle.canonical_file.specs.Records.{Record, entry_fields, record_bytes}
-use Rattle.canonical_file.specs.Written.{Written, begun, after_frames, table_record, table_piece, after_table, end_size}
+use Rattle.canonical_file.specs.Written.{Written, header_alone, after_frames, table_record, table_piece, after_table}
+use Rattle.canonical_file.specs.Written.{end_size}
 use Rattle.canonical_file.specs.Written.{way_back, canonical_file}
 use Rattle.canonical_laws.specs.Writable.{IsWritable, IsWritableFileEnd, IsWritableTable}
 use Rattle.canonical_laws.specs.Laws.{WrittenTablesAreGood}
@@ -186,11 +187,11 @@ table-in_file : (dictionary : List Entry) (fs : List Frame) (e t : Entry) (c : C
     → IsWritableFileEnd dictionary e → IsWritableTable dictionary t
     → length (canonical_file (record { end = e; table = Some t }) fs) ≤ file_limit
     → AreContents (canonical_file (record { end = e; table = Some t }) fs) c
-    → fits (after_frames begun fs) t ≡ true → c.table ≡ state.Good
+    → fits (after_frames header_alone fs) t ≡ true → c.table ≡ state.Good
 table-in_file dictionary fs e t c all end table limit contents written =
     let closing : Closing = record { end = e; table = Some t } in
     let file : List ℕ = canonical_file closing fs in
-    let w : Written = after_frames begun fs in
+    let w : Written = after_frames header_alone fs in
     let b : Before = after_all nothing_yet fs in
     let r : Record = table_record w.built t in
     let at : ℕ = (past_entry None b t).place in
@@ -223,7 +224,7 @@ table-in_file dictionary fs e t c all end table limit contents written =
     past.tells.size ∙ ap (λ b. (past_table b (after_all nothing_yet fs) r).place) written
     ∙ ap (λ n. at + n) (record-size at r) in
     let place : at + seek ≡ c.bytes = omega (arith, ends, back, may.whole, contents.bytes_are) in
-    let built : IsBuilt w.size w.built = frames-built dictionary begun fs all.frames (nothing-built 40) in
+    let built : IsBuilt w.size w.built = frames-built dictionary header_alone fs all.frames (nothing-built 40) in
     let is : IsTableRecord dictionary held w.size w.built t = record {
       writable = table;
       held_is = entry_of-own b.dictionary t (has-table dictionary file w b e t may).class;
@@ -231,7 +232,7 @@ table-in_file dictionary fs e t c all end table limit contents written =
       built_is = built;
       limit = omega (arith, may.whole, limit);
     } in
-    let count : length w.built.heads ≡ w.frames = heads-counted begun fs refl in
+    let count : length w.built.heads ≡ w.frames = heads-counted header_alone fs refl in
     let Led : ℕ → Type 0 =
     λ n. IsState c.order c.bytes c.frames c.channels (table_in c.order contents.items) n c.table in
     let judged : IsJudged (is_listed c.order c.frames stored) c.channels c.table =
@@ -250,9 +251,10 @@ good_tables dictionary fs closing c sound frames writable few limit contents som
     by : (e : Entry) (table : Option Entry) → IsWritableFileEnd dictionary e → IfSome table (IsWritableTable dictionary)
         → length (canonical_file (record { end = e; table = table }) fs) ≤ file_limit
         → AreContents (canonical_file (record { end = e; table = table }) fs) c
-        → ((table_piece (after_frames begun fs) (record { end = e; table = table })).record_itself ≡ [] → ⊥)
+        → ((table_piece (after_frames header_alone fs) (record { end = e; table = table })).record_itself ≡ [] → ⊥)
         → c.table ≡ state.Good
     by e None end table limit contents some = absurd (some refl)
     by e (Some t) end table limit contents some =
-        table-in_file dictionary fs e t c (record { sound = sound; frames = frames; few = few }) end table limit contents
-        (written-fits (after_frames begun fs) e t some)
+        table-in_file dictionary fs e t c
+        (record { sound = sound; frames = frames; few = few }) end table limit contents
+        (written-fits (after_frames header_alone fs) e t some)

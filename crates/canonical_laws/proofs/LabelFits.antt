@@ -1,5 +1,5 @@
--- The values of a label, and of the record that is written of it, in the place of those that were read: they fit the same
--- layout, take as many bytes and have as many links.
+-- The values of a label, and of the record that is written of it, in the place of those that were read: they fit the
+-- same layout, take as many bytes and have as many links.
 use Rattle.std.proofs.Common.{◌≡◌, ℕ, ◌+◌, ◌*◌, Bool, true, false, cond, List, [], ◌∷◌, ◌++◌, length, map, take}
 use Rattle.std.proofs.Common.{drop, All, refl, sym, ap, ◌∙◌, subst, arith, append_assoc, length-append}
 use Rattle.std.proofs.Common.{length-take, length-drop}
@@ -10,14 +10,14 @@ use Rattle.scalar_types.specs.declared.Width.TheVariants.{One, Two, Four, Eight}
 use Rattle.type_text.specs.declared.types.Link.{Link as StructLink}
 use Rattle.record_values.specs.declared.values.Value.{Value}
 use Rattle.record_values.specs.declared.values.Value.TheVariants as value
-use Rattle.record_values.specs.Links.{links_of, links_in, linked_value, linked}
+use Rattle.record_values.specs.Links.{links_of, links_in, linked_value, with_links}
 use Rattle.layout_plan.specs.declared.fields.Form.{Form}
 use Rattle.layout_plan.specs.declared.fields.Form.TheVariants.{Number, Pair, Text, Link}
 use Rattle.layout_plan.specs.declared.fields.Count.{Count}
 use Rattle.layout_plan.specs.declared.fields.Field.{Field}
 use Rattle.layout_plan.specs.Layout.{IsEarlier, AreSound, AreSums}
 use Rattle.layout_plan.specs.Body.{number_of, value_length, values_length}
-use Rattle.layout_plan.specs.Written.{cleared}
+use Rattle.layout_plan.specs.Written.{with_sums_cleared}
 use Rattle.layout_plan.proofs.BodyLemmas.{item_count-earlier}
 use Rattle.record_writer.specs.Fit.{FitsListed, FitsField, Fits}
 use Rattle.frame_content.specs.Labels.{nullified, unlinked}
@@ -171,7 +171,7 @@ unlinked-all numbers (f ∷ fs) (v ∷ vs) fit = (
 )
 
 cleared-all : (numbers : List ℕ) (fs : List Field) (vs : List Value) → AreSums fs → AllZip (FitsBy numbers) fs vs
-    → AllStandFor numbers fs vs (cleared fs vs)
+    → AllStandFor numbers fs vs (with_sums_cleared fs vs)
 cleared-all numbers [] [] sums fit = tt
 cleared-all numbers [] (v ∷ vs) sums fit = absurd fit
 cleared-all numbers (f ∷ fs) [] sums fit = absurd fit
@@ -181,7 +181,8 @@ cleared-all numbers (f ∷ fs) (v ∷ vs) sums fit = (
 )
 
 linked-all : (numbers : List ℕ) (fs : List Field) (vs : List Value) (links : List StructLink)
-    → AllZip (FitsBy numbers) fs vs → length links ≡ length (links_in vs) → AllStandFor numbers fs vs (linked vs links)
+    → AllZip (FitsBy numbers) fs vs → length links ≡ length (links_in vs)
+    → AllStandFor numbers fs vs (with_links vs links)
 linked-all numbers [] [] links fit same = tt
 linked-all numbers [] (v ∷ vs) links fit same = absurd fit
 linked-all numbers (f ∷ fs) [] links fit same = absurd fit
@@ -266,20 +267,21 @@ stands-fit fs vs ws sound sums all = moved [] fs vs ws sound sums (map number_of
 
 -- The values of a label stand for those that were read.
 pub label-stands : (fs : List Field) (vs : List Value) → AreSums fs → Fits fs vs
-    → AllStandFor (map number_of vs) fs vs (cleared fs (map unlinked vs))
+    → AllStandFor (map number_of vs) fs vs (with_sums_cleared fs (map unlinked vs))
 label-stands fs vs sums fit =
     let numbers : List ℕ = map number_of vs in
     let us : List Value = map unlinked vs in
     let plain = unlinked-all numbers fs vs fit in
-    all-then numbers fs vs us (cleared fs us) plain (cleared-all numbers fs us sums (all-fit numbers fs vs us plain))
+    all-then numbers fs vs us (with_sums_cleared fs us) plain
+    (cleared-all numbers fs us sums (all-fit numbers fs vs us plain))
 
 -- And so do the same with as many links.
 pub linked-label-stands : (fs : List Field) (vs : List Value) (links : List StructLink) → AreSums fs → Fits fs vs
     → length links ≡ length (links_in vs)
-    → AllStandFor (map number_of vs) fs vs (linked (cleared fs (map unlinked vs)) links)
+    → AllStandFor (map number_of vs) fs vs (with_links (with_sums_cleared fs (map unlinked vs)) links)
 linked-label-stands fs vs links sums fit same =
     let numbers : List ℕ = map number_of vs in
-    let cs : List Value = cleared fs (map unlinked vs) in
+    let cs : List Value = with_sums_cleared fs (map unlinked vs) in
     let label = label-stands fs vs sums fit in
-    all-then numbers fs vs cs (linked cs links) label
+    all-then numbers fs vs cs (with_links cs links) label
     (linked-all numbers fs cs links (all-fit numbers fs vs cs label) (same ∙ sym (all-links numbers fs vs cs label)))

@@ -9,14 +9,14 @@ use Rattle.scalar_types.specs.declared.Width.TheVariants.{One, Two, Four, Eight}
 use Rattle.type_text.specs.declared.types.Link.{Link as StructLink}
 use Rattle.record_values.specs.declared.values.Value.{Value}
 use Rattle.record_values.specs.declared.values.Value.TheVariants as value
-use Rattle.record_values.specs.Links.{links_of, linked_value, linked}
+use Rattle.record_values.specs.Links.{links_of, linked_value, with_links}
 use Rattle.record_values.specs.Spelling.{IsNumber, AreItems}
 use Rattle.layout_plan.specs.declared.fields.Form.{Form}
 use Rattle.layout_plan.specs.declared.fields.Form.TheVariants.{Number, Pair, Text, Link}
 use Rattle.layout_plan.specs.declared.fields.Count.{Count}
 use Rattle.layout_plan.specs.declared.fields.Field.{Field}
 use Rattle.layout_plan.specs.Body.{number_of, item_count, IsSingle, IsListed, IsField, AreFields, IsBody}
-use Rattle.layout_plan.specs.Written.{cleared}
+use Rattle.layout_plan.specs.Written.{with_sums_cleared}
 use Rattle.frame_content.specs.Labels.{null_link, nullified, unlinked}
 use Rattle.canonical_file.specs.Ranges.{IsByte, AreBytes, IsLinkInRange, IsInRange}
 use Rattle.canonical_file.proofs.Spelled.{parts_of}
@@ -32,7 +32,8 @@ one-byte Little n (b ∷ []) all h =
     omega (arith, h.value, byte)
 one-byte order n (b ∷ c ∷ bs) all h = absurd (omega (arith, h.size))
 
-bytes-range : (order : Order) (xs bytes : List ℕ) → AreBytes bytes → AreItems (IsNumber order One) xs bytes → AreBytes xs
+bytes-range : (order : Order) (xs bytes : List ℕ) → AreBytes bytes → AreItems (IsNumber order One) xs bytes
+    → AreBytes xs
 bytes-range order [] bytes all items = All-nil IsByte
 bytes-range order (x ∷ xs) bytes all (front, rest, split, r, items) =
     let both = parts_of bytes front rest split all in
@@ -84,7 +85,7 @@ fields-range order numbers (f ∷ fs) (v ∷ vs) bytes all (front, rest, split, 
 -- ---- neither the check sum 0 nor links that are in range change this
 
 cleared-range : (fs : List Field) (vs : List Value) → AllByRecursion IsInRange vs
-    → AllByRecursion IsInRange (cleared fs vs)
+    → AllByRecursion IsInRange (with_sums_cleared fs vs)
 cleared-range [] vs all = all
 cleared-range (f ∷ fs) [] all = tt
 cleared-range (f ∷ fs) (v ∷ vs) all = (by f.is_sum, cleared-range fs vs all.1)
@@ -107,7 +108,7 @@ linked_value-range (value.Texts xs) links range all = tt
 linked_value-range (value.Bytes xs) links range all = range
 
 linked-range : (vs : List Value) (links : List StructLink) → AllByRecursion IsInRange vs → All IsLinkInRange links
-    → AllByRecursion IsInRange (linked vs links)
+    → AllByRecursion IsInRange (with_links vs links)
 linked-range [] links all ranges = tt
 linked-range (v ∷ vs) links all ranges =
     let n : ℕ = length (links_of v) in (
@@ -117,7 +118,7 @@ linked-range (v ∷ vs) links all ranges =
 
 -- The values of the label of a body of bytes are in range.
 pub label-range : (order : Order) (fields : List Field) (values : List Value) (tail bytes : List ℕ) → AreBytes bytes
-    → IsBody order fields values tail bytes → AllByRecursion IsInRange (cleared fields (map unlinked values))
+    → IsBody order fields values tail bytes → AllByRecursion IsInRange (with_sums_cleared fields (map unlinked values))
 label-range order fields values tail bytes all body =
     let both = parts_of bytes body.front tail body.split all in
     cleared-range fields (map unlinked values)
@@ -126,6 +127,7 @@ label-range order fields values tail bytes all body =
 -- So they are with links in range.
 pub linked-label-range : (order : Order) (fields : List Field) (values : List Value) (tail bytes : List ℕ)
     (links : List StructLink) → AreBytes bytes → IsBody order fields values tail bytes → All IsLinkInRange links
-    → AllByRecursion IsInRange (linked (cleared fields (map unlinked values)) links)
+    → AllByRecursion IsInRange (with_links (with_sums_cleared fields (map unlinked values)) links)
 linked-label-range order fields values tail bytes links all body ranges =
-    linked-range (cleared fields (map unlinked values)) links (label-range order fields values tail bytes all body) ranges
+    linked-range (with_sums_cleared fields (map unlinked values)) links
+    (label-range order fields values tail bytes all body) ranges

@@ -7,7 +7,7 @@ use Rattle.record_values.specs.declared.values.Value.TheVariants as value
 use Rattle.dictionary.specs.declared.entries.Entry.{Entry}
 use Rattle.layout_plan.specs.declared.fields.Field.{Field}
 use Rattle.layout_plan.specs.Layout.{layout_of}
-use Rattle.layout_plan.specs.Written.{cleared}
+use Rattle.layout_plan.specs.Written.{with_sums_cleared}
 use Rattle.file_grammar.specs.Record.{Reading}
 use Rattle.frame_content.specs.Labels.{nullified, unlinked, printed_entry, label_by}
 use Rattle.canonical_file.specs.Records.{entry_fields}
@@ -34,7 +34,8 @@ all-twice [] = refl
 all-twice (v ∷ vs) = λ i. unlinked-twice v i ∷ all-twice vs i
 
 cleared-twice : (fs : List Field) (vs : List Value)
-    → cleared fs (map unlinked (cleared fs (map unlinked vs))) ≡ cleared fs (map unlinked vs)
+    → with_sums_cleared fs (map unlinked (with_sums_cleared fs (map unlinked vs)))
+    ≡ with_sums_cleared fs (map unlinked vs)
 cleared-twice [] vs = all-twice vs
 cleared-twice (f ∷ fs) [] = refl
 cleared-twice (f ∷ fs) (v ∷ vs) = λ i. by f.is_sum i ∷ cleared-twice fs vs i
@@ -45,7 +46,8 @@ cleared-twice (f ∷ fs) (v ∷ vs) = λ i. by f.is_sum i ∷ cleared-twice fs v
     by false = unlinked-twice v
 
 -- the fields of an entry that is printed
-pub fields-printed : (e : Entry) (fs : List Field) → layout_of e.elements ≡ Some fs → entry_fields (printed_entry e) ≡ fs
+pub fields-printed : (e : Entry) (fs : List Field) → layout_of e.elements ≡ Some fs
+    → entry_fields (printed_entry e) ≡ fs
 fields-printed e fs layout = ap (λ o. unwrap_or o []) (layout-printed e.elements ∙ layout)
 
 -- The label of a body that reads by the layout of an entry.
@@ -54,7 +56,7 @@ pub label-is : (e : Entry) (reading : Reading) → layout_of e.elements ≡ Some
 label-is e reading layout = record {
   entry = entry-twice e;
   values =
-      ap (λ fs. cleared fs (map unlinked (cleared reading.fields (map unlinked reading.values))))
+      ap (λ fs. with_sums_cleared fs (map unlinked (with_sums_cleared reading.fields (map unlinked reading.values))))
       (fields-printed e reading.fields layout)
       ∙ cleared-twice reading.fields reading.values;
 }

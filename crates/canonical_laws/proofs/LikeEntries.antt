@@ -11,7 +11,7 @@ use Rattle.dictionary.specs.declared.entries.Entry.{Entry}
 use Rattle.dictionary.specs.Named.{first_named}
 use Rattle.layout_plan.specs.declared.fields.Field.{Field}
 use Rattle.layout_plan.specs.Layout.{named_count, count_in, is_last, field_of, fields_after, layout_of}
-use Rattle.layout_plan.specs.Written.{cleared}
+use Rattle.layout_plan.specs.Written.{with_sums_cleared}
 use Rattle.file_grammar.specs.Structure.{record_limit}
 use Rattle.frame_content.specs.Labels.{Label, printed_entry, unlinked}
 use Rattle.canonical_file.specs.Bytes.{body_bytes, structure_bytes}
@@ -105,5 +105,5 @@ pub label-alike : (e : Entry) (l : Label) → IsAlike e l.entry → printed_entr
     → IsLabel (label_with e l)
 label-alike e l alike printed is = record {
   entry = printed;
-  values = ap (λ fields. cleared fields (map unlinked l.values)) (fields-alike e l.entry alike) ∙ is.values;
+  values = ap (λ fields. with_sums_cleared fields (map unlinked l.values)) (fields-alike e l.entry alike) ∙ is.values;
 }

@@ -5,7 +5,7 @@ use Rattle.std.proofs.lemmas.List.{take-append-drop, length-take-le}
 use Rattle.type_text.specs.declared.types.Link.{Link}
 use Rattle.record_values.specs.declared.values.Value.{Value}
 use Rattle.record_values.specs.declared.values.Value.TheVariants as value
-use Rattle.record_values.specs.Links.{links_of, links_in, linked_value, linked}
+use Rattle.record_values.specs.Links.{links_of, links_in, linked_value, with_links}
 use Rattle.frame_content.specs.Labels.{nullified, unlinked}
 
 none : (links : List Link) → length links ≡ 0 → [] ≡ links
@@ -38,7 +38,7 @@ first-links v vs links size =
 
 -- The links of values are those that were put into them.
 pub links-linked : (vs : List Value) (links : List Link) → length links ≡ length (links_in vs)
-    → links_in (linked vs links) ≡ links
+    → links_in (with_links vs links) ≡ links
 links-linked [] links size = none links size
 links-linked (v ∷ vs) links size =
     let n : ℕ = length (links_of v) in
@@ -67,7 +67,7 @@ unlinked-value (value.Bytes xs) links size = refl
 
 -- With their links null the values are the same.
 pub unlinked-linked : (vs : List Value) (links : List Link) → length links ≡ length (links_in vs)
-    → map unlinked (linked vs links) ≡ map unlinked vs
+    → map unlinked (with_links vs links) ≡ map unlinked vs
 unlinked-linked [] links size = refl
 unlinked-linked (v ∷ vs) links size =
     let n : ℕ = length (links_of v) in

@@ -10,7 +10,8 @@ use Rattle.contents_table.specs.declared.kind.Kind.{Kind}
 use Rattle.contents_table.specs.declared.kind.Kind.TheVariants.{Adc, Proc, Sim, Ser}
 use Rattle.contents_table.specs.Channels.{structure_of, header_of, first_channel, next_channel, channels_from}
 use Rattle.contents_table.specs.Channels.{named_channel, named_channels}
-use Rattle.contents_table.specs.Built.{Built, with_frame, with_channel, place_of, with_named, with_channels, with_frame_at}
+use Rattle.contents_table.specs.Built.{Built, with_frame, with_channel, place_of, with_named, with_channels}
+use Rattle.contents_table.specs.Built.{with_frame_at}
 use Rattle.canonical_file.proofs.RenumberedTable.{all-kinds}
 use Rattle.canonical_laws.proofs.ChannelRows.{header-within, IsChannel, HasChannels}
 

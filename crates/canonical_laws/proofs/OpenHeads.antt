@@ -14,7 +14,7 @@ use Rattle.file_grammar.specs.Laws.{WellFormed}
 use Rattle.file_grammar.proofs.Advance.{moves}
 use Rattle.file_grammar.proofs.Headers.{same_order}
 use Rattle.file_grammar.proofs.Prefixes.{same_first, open_item, no_prefix}
-use Rattle.canonical_file.specs.Written.{begun, canonical_head, canonical_file}
+use Rattle.canonical_file.specs.Written.{header_alone, canonical_head, canonical_file}
 use Rattle.canonical_file.proofs.Sizes.{head-size}
 use Rattle.canonical_laws.specs.Laws.{NoCanonicalHeadIsWhole, NoPartOfAHeadIsWhole, NoPartOfACanonicalFileIsWhole}
 use Rattle.canonical_laws.proofs.Heads.{part_bytes, after_all, frames_items, HeadStands}
@@ -63,10 +63,10 @@ no-part_of_open file order others mid begins unclosed ends n (other, items, last
 pub no_part_of_a_head : NoPartOfAHeadIsWhole
 no_part_of_a_head dictionary fs n sound frames few limit =
     let head : List ℕ = canonical_head fs in
-    let parts : List ℕ = part_bytes begun fs in
+    let parts : List ℕ = part_bytes header_alone fs in
     let same : head ++ [] ≡ head = append-nil head in
     let all : AreWritten dictionary fs = record { sound = sound; frames = frames; few = few } in
-    let stands : HeadStands dictionary (head ++ []) begun nothing_yet fs =
+    let stands : HeadStands dictionary (head ++ []) header_alone nothing_yet fs =
     whole-head dictionary fs [] all (subst (λ xs. length xs ≤ file_limit) (sym same) limit) in
     let mid : Before = after_all nothing_yet fs in
     let long = length-append header_bytes parts in

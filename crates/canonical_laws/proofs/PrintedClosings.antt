@@ -1,5 +1,6 @@
 -- Printing changes nothing of what an entry of the closing has to have.
-use Rattle.std.proofs.Common.{◌≡◌, ℕ, ◌+◌, Bool, true, false, not, ◌&&◌, ◌||◌, cond, Option, Some, None, is_some, List, []}
+use Rattle.std.proofs.Common.{◌≡◌, ℕ, ◌+◌, Bool, true, false, not, ◌&&◌, ◌||◌, cond, Option, Some, None, is_some, List}
+use Rattle.std.proofs.Common.{[]}
 use Rattle.std.proofs.Common.{◌∷◌, map, codes, refl, ap, ◌∙◌}
 use Rattle.std.specs.List.{list_any, list_all}
 use Rattle.std.specs.Option.{option_map, option_map_or}
@@ -12,7 +13,8 @@ use Rattle.file_grammar.specs.Closing.{is_single, is_any, is_count, is_size, has
 use Rattle.frame_content.specs.Labels.{printed_element, printed_entry}
 use Rattle.contents_table.specs.declared.kind.Kind.TheVariants.{Adc, Proc, Sim, Ser}
 use Rattle.contents_table.specs.Channels.{is_text}
-use Rattle.contents_table.specs.Fit.{count_field, names_field, positions_field, frames_field, heads_field, is_list, has_list}
+use Rattle.contents_table.specs.Fit.{count_field, names_field, positions_field, frames_field, heads_field, is_list}
+use Rattle.contents_table.specs.Fit.{has_list}
 use Rattle.contents_table.specs.Fit.{has_field, lists, lacks, has_table, is_fit}
 use Rattle.canonical_file.proofs.Printing.{layout-printed}
 

@@ -1,7 +1,9 @@
 -- The roots of a frame of a file, in the breadth-first order, are the roots that a file has of the rows in this order.
-use Rattle.std.proofs.Common.{◌≡◌, ℕ, zero, suc, ◌+◌, ◌<◌, ◌≤◌, ◌⊎◌, inl, inr, Bool, true, false, ◌||◌, cond, true≢false}
+use Rattle.std.proofs.Common.{◌≡◌, ℕ, zero, suc, ◌+◌, ◌<◌, ◌≤◌, ◌⊎◌, inl, inr, Bool, true, false, ◌||◌, cond}
+use Rattle.std.proofs.Common.{true≢false}
 use Rattle.std.proofs.Common.{nat_eq, Some, None, List, [], ◌∷◌, ◌++◌, length, map, fold, get_or, filter_map, flat_map}
-use Rattle.std.proofs.Common.{codes, refl, sym, ap, ◌∙◌, subst, arith, add-zero, append_assoc, append-nil, length-append}
+use Rattle.std.proofs.Common.{codes, refl, sym, ap, ◌∙◌, subst, arith, add-zero, append_assoc, append-nil}
+use Rattle.std.proofs.Common.{length-append}
 use Rattle.std.proofs.Common.{suc-add}
 use Rattle.std.specs.List.{AllByRecursion, IsDistinct, enumerate_from, cons_option, range_with_len}
 use Rattle.std.specs.Str.{bytes_eq}

@@ -7,11 +7,11 @@ use Rattle.std.proofs.lemmas.List.{length-map}
 use Rattle.std.proofs.lemmas.List.Elements.{All-head, All-tail}
 use Rattle.scalar_types.specs.declared.Order.TheVariants.{Little}
 use Rattle.type_text.specs.declared.types.Link.{Link}
-use Rattle.record_values.specs.Links.{links_in, linked}
+use Rattle.record_values.specs.Links.{links_in, with_links}
 use Rattle.dictionary.specs.declared.entries.Entry.{Entry}
 use Rattle.dictionary.specs.Dictionary.{entry_of}
 use Rattle.layout_plan.specs.declared.fields.Field.{Field}
-use Rattle.layout_plan.specs.Written.{cleared}
+use Rattle.layout_plan.specs.Written.{with_sums_cleared}
 use Rattle.link_graph.specs.declared.nodes.Root.{Root}
 use Rattle.link_graph.specs.Collected.{Bodied, target_of}
 use Rattle.link_graph.specs.Table.{IsWithin}
@@ -38,22 +38,23 @@ written_node at root r = record {
 
 values-back : (l : Label) (fields : List Field) (links : List Link) → entry_fields l.entry ≡ fields → IsLabel l
     → length links ≡ length (links_in l.values)
-    → cleared fields (map unlinked (linked l.values links)) ≡ l.values
+    → with_sums_cleared fields (map unlinked (with_links l.values links)) ≡ l.values
 values-back l fields links is label size =
-    ap (cleared fields) (unlinked-linked l.values links size)
-    ∙ ap (λ fs. cleared fs (map unlinked l.values)) (sym is)
+    ap (with_sums_cleared fields) (unlinked-linked l.values links size)
+    ∙ ap (λ fs. with_sums_cleared fs (map unlinked l.values)) (sym is)
     ∙ label.values
 
 -- the label that is read is the one that was written
 label-back : (held : List Entry) (at : ℕ) (root : Root) (r : Record) (l : Label) (links : List Link) → IsLabel l
-    → r.entry ≡ l.entry → r.values ≡ linked l.values links → length links ≡ length (links_in l.values) → IsWritable r
+    → r.entry ≡ l.entry → r.values ≡ with_links l.values links → length links ≡ length (links_in l.values)
+    → IsWritable r
     → entry_of held r.entry.class ≡ Some r.entry → label_of Little held (written_node at root r) ≡ l
 label-back held at root r l links label entry values size w is =
     let read : reading_in Little held (written_node at root r) ≡ Some (reading_back r w) =
     record-reads held at r w is in
     let fields : entry_fields l.entry ≡ w.layout = ap entry_fields (sym entry) ∙ fields-layout r w in
-    let cleared_is : cleared w.layout (map unlinked r.values) ≡ l.values =
-    ap (λ vs. cleared w.layout (map unlinked vs)) values ∙ values-back l w.layout links fields label size in
+    let cleared_is : with_sums_cleared w.layout (map unlinked r.values) ≡ l.values =
+    ap (λ vs. with_sums_cleared w.layout (map unlinked vs)) values ∙ values-back l w.layout links fields label size in
     (λ i. label_by (is i) (read i))
     ∙ (λ i. label_by (Some (entry i)) (Some (reading_back r w)))
     ∙ (λ i. record { entry = label.entry i; values = cleared_is i })
@@ -113,6 +114,6 @@ pub end-back : (held : List Entry) (f : Frame) (at : ℕ) (root : Root) → IsLa
 end-back held f at root label w is =
     let read : reading_in Little held (written_node at root (end_record f)) ≡ Some (reading_back (end_record f) w) =
     record-reads held at (end_record f) w is in
-    let values : cleared w.layout (map unlinked f.end.values) ≡ f.end.values =
-    ap (λ fs. cleared fs (map unlinked f.end.values)) (sym (fields-layout (end_record f) w)) ∙ label.values in
+    let values : with_sums_cleared w.layout (map unlinked f.end.values) ≡ f.end.values =
+    ap (λ fs. with_sums_cleared fs (map unlinked f.end.values)) (sym (fields-layout (end_record f) w)) ∙ label.values in
     (λ i. label_by (is i) (read i)) ∙ (λ i. record { entry = label.entry i; values = values i })

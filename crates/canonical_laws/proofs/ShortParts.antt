@@ -14,7 +14,7 @@ use Rattle.frame_content.specs.Frames.{Frame}
 use Rattle.canonical_file.specs.Bytes.{structure_bytes, element_body, head_body, elements_bytes, entry_bytes}
 use Rattle.canonical_file.specs.Records.{Record, record_bytes, end_record, records_of, unless_held, new_entry, added_by}
 use Rattle.canonical_file.specs.Records.{with_record, entries_after, piece_bytes, piece_of, pieces_of}
-use Rattle.canonical_file.specs.Written.{begun, frame_part, after_frames, canonical_head}
+use Rattle.canonical_file.specs.Written.{header_alone, frame_part, after_frames, canonical_head}
 use Rattle.canonical_laws.specs.Writable.{IsWritableElement, IsWritableEntry, IsWritableFrame, size_of_record}
 use Rattle.canonical_laws.proofs.Holding.{length-structure}
 use Rattle.canonical_laws.proofs.WrittenEntries.{element-short, head-short}
@@ -90,9 +90,9 @@ alone-short dictionary f all =
     omega (
       arith,
       pieces-short [] rs entries,
-      few-needed dictionary (after_frames begun (f ∷ [])).entries all.sound (needed dictionary (f ∷ []) all),
+      few-needed dictionary (after_frames header_alone (f ∷ [])).entries all.sound (needed dictionary (f ∷ []) all),
       w.load,
-      length-append header_bytes (part_bytes begun (f ∷ [])),
+      length-append header_bytes (part_bytes header_alone (f ∷ [])),
       header_bytes-length,
-      length-append (frame_part begun f) [],
+      length-append (frame_part header_alone f) [],
     )

@@ -1,5 +1,6 @@
 -- The closing of a well-formed file of bytes can be written.
-use Rattle.std.proofs.Common.{◌≡◌, ℕ, Bool, true, false, cond, Option, Some, None, IfSome, IsSomeAnd, List, [], ◌∷◌, map, find}
+use Rattle.std.proofs.Common.{◌≡◌, ℕ, Bool, true, false, cond, Option, Some, None, IfSome, IsSomeAnd, List, [], ◌∷◌}
+use Rattle.std.proofs.Common.{map, find}
 use Rattle.std.proofs.Common.{codes, refl, sym, ap, ◌∙◌, subst, true≢false}
 use Rattle.std.specs.Prelude.{◌==◌, option_and_then}
 use Rattle.std.specs.Option.{option_map, option_map_or}
@@ -11,7 +12,8 @@ use Rattle.scalar_types.specs.declared.Order.{Order}
 use Rattle.dictionary.specs.declared.entries.Entry.{Entry}
 use Rattle.dictionary.specs.Dictionary.{entry_of, class_named, IsDictionary}
 use Rattle.file_grammar.specs.declared.kind.Kind.{Kind}
-use Rattle.file_grammar.specs.declared.kind.Kind.TheVariants.{FrSH, FrSE, FrameH, FrEndOfFrame, FrTOC, FrEndOfFile, Other}
+use Rattle.file_grammar.specs.declared.kind.Kind.TheVariants.{FrSH, FrSE, FrameH, FrEndOfFrame, FrTOC, FrEndOfFile}
+use Rattle.file_grammar.specs.declared.kind.Kind.TheVariants.{Other}
 use Rattle.file_grammar.specs.Structure.{Structure}
 use Rattle.file_grammar.specs.Kind.{kind_named, kind_of}
 use Rattle.file_grammar.specs.Record.{weight_of}
@@ -62,11 +64,13 @@ named-held held name e sound self is =
         → entry_of held e.class ≡ Some e
     by None found some = absurd some
     by (Some x) found named =
-        found ∙ ap Some (sym (find-both (λ (y : Entry). bytes_eq name y.name) (λ (y : Entry). e.class == y.class) held e x
+        found ∙ ap Some (sym (find-both (λ (y : Entry). bytes_eq name y.name)
+        (λ (y : Entry). e.class == y.class) held e x
         is found (same-name x name named self) (eq-eqb e.class e.class refl)))
 
 -- an entry that is held is found by its name
-pub held-named : (held : List Entry) (name : List ℕ) (class : ℕ) (e : Entry) → IsDictionary held → bytes_eq name name ≡ true
+pub held-named : (held : List Entry) (name : List ℕ) (class : ℕ) (e : Entry) → IsDictionary held
+    → bytes_eq name name ≡ true
     → e.name ≡ name → entry_of held class ≡ Some e → entry_named held name ≡ Some e
 held-named held name class e sound self named is =
     by (entry_named held name) refl (ap (class_named held) (sym named) ∙ (sound.entries class e is).name)

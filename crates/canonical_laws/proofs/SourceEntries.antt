@@ -1,5 +1,6 @@
 -- The entries that a file of bytes holds can be written again, printed.
-use Rattle.std.proofs.Common.{◌≡◌, ℕ, ◌-◌, ◌≤◌, Option, Some, None, List, [], ◌∷◌, ◌++◌, length, map, take, drop, sym, ap}
+use Rattle.std.proofs.Common.{◌≡◌, ℕ, ◌-◌, ◌≤◌, Option, Some, None, List, [], ◌∷◌, ◌++◌, length, map, take, drop, sym}
+use Rattle.std.proofs.Common.{ap}
 use Rattle.std.proofs.Common.{subst, arith}
 use Rattle.std.specs.Prelude.{◌==◌}
 use Rattle.std.specs.List.{AllByRecursion}
@@ -8,7 +9,7 @@ use Rattle.std.proofs.lemmas.List.{length-map}
 use Rattle.std.proofs.lemmas.List.Elements.{All-take, All-drop, All-from_recursion}
 use Rattle.scalar_types.specs.declared.Order.{Order}
 use Rattle.type_text.specs.declared.types.ElementType.{ElementType}
-use Rattle.type_text.specs.TypeText.{type_of, printed, IsTypeText}
+use Rattle.type_text.specs.TypeText.{type_of, printed_type, IsTypeText}
 use Rattle.type_text.proofs.FoundLemmas.{find-some}
 use Rattle.type_text.proofs.SpellingLemmas.{type_of-grammar}
 use Rattle.record_values.specs.declared.values.Value.TheVariants as value
@@ -78,11 +79,11 @@ entry-source order file head run e bytes is =
 printed-short : (e : Element) → IsRead e → IsShortText e.text → IsShortText (printed_element e).text
 printed-short e read short = by e.ty read
   where
-    by : (o : Option ElementType) → o ≡ type_of e.text → length (option_map_or printed o e.text) ≤ 65534
+    by : (o : Option ElementType) → o ≡ type_of e.text → length (option_map_or printed_type o e.text) ≤ 65534
     by None same = short
     by (Some ty) same =
         let grammar : IsTypeText e.text ty = (type_of-grammar e.text ty).0 (sym same) in
-        let small : length (printed ty) ≤ 4096 = grammar.1 in
+        let small : length (printed_type ty) ≤ 4096 = grammar.1 in
         omega arith
 
 element-printed : (e : Element) → IsWritableElement e → IsWritableElement (printed_element e)

@@ -113,7 +113,8 @@ pub source-linked : {order : Order} {held : List Entry} (f : Frame) → IsSource
 source-linked f source = record {
   roots = subst (All (λ n. n < length f.rows)) (sym source.roots)
       (All-from_recursion (λ n. n < length f.rows) (root_numbers f.rows)
-      (both (λ n. n < length f.rows) (numbers_from (codes "FrameH") 0 f.rows) (numbers_from (codes "FrStatData") 0 f.rows)
+      (both (λ n. n < length f.rows) (numbers_from (codes "FrameH") 0 f.rows)
+      (numbers_from (codes "FrStatData") 0 f.rows)
       (numbers-below (codes "FrameH") f.rows) (numbers-below (codes "FrStatData") f.rows)));
   links = All-from_get_or (λ (r : Row). All (IsWithin (length f.rows)) r.links) f.rows no_row
       (λ n within. (source.rows n within).within);

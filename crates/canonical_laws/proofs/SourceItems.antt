@@ -6,19 +6,21 @@ use Rattle.scalar_types.specs.declared.Order.{Order}
 use Rattle.dictionary.specs.declared.entries.Entry.{Entry}
 use Rattle.dictionary.specs.Dictionary.{step}
 use Rattle.file_grammar.specs.declared.kind.Kind.{Kind}
-use Rattle.file_grammar.specs.declared.kind.Kind.TheVariants.{FrSH, FrSE, FrameH, FrEndOfFrame, FrTOC, FrEndOfFile, Other}
+use Rattle.file_grammar.specs.declared.kind.Kind.TheVariants.{FrSH, FrSE, FrameH, FrEndOfFrame, FrTOC, FrEndOfFile}
+use Rattle.file_grammar.specs.declared.kind.Kind.TheVariants.{Other}
 use Rattle.file_grammar.specs.Structure.{Structure}
 use Rattle.file_grammar.specs.Kind.{kind_of, is_target_kind}
 use Rattle.file_grammar.specs.Record.{weight_of}
 use Rattle.file_grammar.specs.Item.{Item, EntryItem, OtherItem, Before, dictionary_by, after_kind, after}
 use Rattle.file_grammar.specs.MayStand.{RecordMayStand, KindMayStand, StructureMayStand, MayStand, Stand}
-use Rattle.file_content.specs.Stored.{StoredFrame, brought, brought_in, frame_of_kind, frame_ended}
+use Rattle.file_content.specs.Stored.{StoredFrame, structures_brought, brought_in, frame_of_kind, frame_ended}
 use Rattle.file_content.specs.Contents.{content_frame}
 use Rattle.canonical_file.specs.Ranges.{AreBytes}
 use Rattle.canonical_laws.proofs.DictionarySteps.{Stepped, after-gives, StaysIn, step-stays}
 use Rattle.canonical_laws.proofs.SourceEntries.{IsSourceEntry, entry-source, AreSources, source-push, body-bytes}
 use Rattle.canonical_laws.proofs.SourceFrames.{IsSourceFrame, both}
-use Rattle.canonical_laws.proofs.SourceStored.{IsSourceRecord, IsOpenFrame, open-grows, open-push, no-frame, ended-source}
+use Rattle.canonical_laws.proofs.SourceStored.{IsSourceRecord, IsOpenFrame, open-grows, open-push, no-frame}
+use Rattle.canonical_laws.proofs.SourceStored.{ended-source}
 
 -- the frame that is open before a place
 abbrev pub IsSourceBefore : Order → Before → Type 0
@@ -101,7 +103,8 @@ kind-keeps Other b s weight = refl
 
 -- ---- one item
 
-pub item-source : (order : Order) (file : List ℕ) (b : Before) (item : Item) → AreBytes file → MayStand order file b item
+pub item-source : (order : Order) (file : List ℕ) (b : Before) (item : Item) → AreBytes file
+    → MayStand order file b item
     → IsSourceBefore order b → IsSourceBefore order (after order b item)
 item-source order file b (EntryItem head run e) bytes may is =
     open-grows order b.dictionary (dictionary_by b.dictionary (step b.dictionary e)) b.frame b.load
@@ -117,7 +120,8 @@ item-stays order b (OtherItem s) =
     (sym (kind-keeps (kind_of b.dictionary s.class) b s (weight_of order b.dictionary s))) (λ class e held. held)
 
 item-frames : (order : Order) (file : List ℕ) (b : Before) (item : Item) → AreBytes file → MayStand order file b item
-    → IsSourceBefore order b → AllByRecursion (IsStoredSource order b.dictionary) (brought frame_ended b item)
+    → IsSourceBefore order b
+    → AllByRecursion (IsStoredSource order b.dictionary) (structures_brought frame_ended b item)
 item-frames order file b (EntryItem head run e) bytes may is = tt
 item-frames order file b (OtherItem s) bytes may is =
     (kind-leaves order file b s bytes is may.1 (kind_of b.dictionary s.class) refl may.1.kind).1
@@ -153,8 +157,8 @@ stand-source order file b last (item ∷ items) bytes stand is =
     record {
       stays = stays;
       before = rest.before;
-      frames = both (IsStoredSource order last.dictionary) (brought frame_ended b item)
+      frames = both (IsStoredSource order last.dictionary) (structures_brought frame_ended b item)
           (brought_in frame_ended order next items)
-          (later order b.dictionary last.dictionary (brought frame_ended b item) stays
+          (later order b.dictionary last.dictionary (structures_brought frame_ended b item) stays
           (item-frames order file b item bytes stand.0 is)) rest.frames;
     }

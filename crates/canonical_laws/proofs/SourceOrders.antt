@@ -23,14 +23,16 @@ use Rattle.rooted_graph.proofs.Reached.{has_root}
 use Rattle.rooted_graph.proofs.Targets.{slice_get_from_has}
 use Rattle.link_graph.specs.Table.{IsWithin}
 use Rattle.file_grammar.specs.declared.kind.Kind.{Kind}
-use Rattle.file_grammar.specs.declared.kind.Kind.TheVariants.{FrSH, FrSE, FrameH, FrEndOfFrame, FrTOC, FrEndOfFile, Other}
+use Rattle.file_grammar.specs.declared.kind.Kind.TheVariants.{FrSH, FrSE, FrameH, FrEndOfFrame, FrTOC, FrEndOfFile}
+use Rattle.file_grammar.specs.declared.kind.Kind.TheVariants.{Other}
 use Rattle.file_grammar.specs.Structure.{record_limit}
 use Rattle.file_grammar.specs.Kind.{kind_named, is_target_kind}
 use Rattle.file_grammar.specs.Record.{Reading}
 use Rattle.frame_content.specs.Labels.{Label, printed_entry, label_by}
 use Rattle.frame_content.specs.Frames.{Row, Frame, no_row, row_at, label_at}
 use Rattle.canonical_file.specs.Ranges.{IsLinkInRange}
-use Rattle.canonical_file.specs.Ordered.{frame_graph, row_in, ordered, class_of, class_at, is_of_class, instance_at, new_link}
+use Rattle.canonical_file.specs.Ordered.{frame_graph, row_in, ordered, class_of, class_at, is_of_class, instance_at}
+use Rattle.canonical_file.specs.Ordered.{new_link}
 use Rattle.canonical_file.specs.Records.{Record, row_record, end_record, records_of}
 use Rattle.canonical_file.proofs.RenumberedChannels.{member-within}
 use Rattle.canonical_laws.specs.Writable.{IsLabel, IsRow, IsWritable, IsRowOfKind, IsWritableRow, IsWritableEnd}
@@ -190,7 +192,8 @@ module _ (order : Order) (held : List Entry) (f : Frame) (s : List ℕ) (source 
       let within = at k less in
       let label = (source.rows x within).label in
       let reading : Reading = label.reading in
-      let stands = label-stands reading.fields reading.values (is-layout label.source).sums (source-fits label.source) in
+      let stands = label-stands reading.fields reading.values (is-layout label.source).sums
+      (source-fits label.source) in
       let row : IsRow (length s) (row_read x within) = record {
         label = label-is label.entry reading label.source.layout;
         as_many = length-map (row_at f x).links (renumbered s) ∙ (source.rows x within).many

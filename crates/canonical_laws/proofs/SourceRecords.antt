@@ -6,12 +6,12 @@ use Rattle.scalar_types.specs.declared.Order.{Order}
 use Rattle.scalar_types.specs.declared.Order.TheVariants.{Little}
 use Rattle.type_text.specs.declared.types.Link.{Link as StructLink}
 use Rattle.record_values.specs.declared.values.Value.{Value}
-use Rattle.record_values.specs.Links.{links_in, linked}
+use Rattle.record_values.specs.Links.{links_in, with_links}
 use Rattle.dictionary.specs.declared.entries.Entry.{Entry}
 use Rattle.layout_plan.specs.declared.fields.Field.{Field}
 use Rattle.layout_plan.specs.Layout.{IsLayout, layout_of}
 use Rattle.layout_plan.specs.Body.{number_of, IsBody, values_length}
-use Rattle.layout_plan.specs.Written.{cleared, IsWritten}
+use Rattle.layout_plan.specs.Written.{with_sums_cleared, IsWritten}
 use Rattle.layout_plan.proofs.LayoutLemmas.{layout_of-IsLayout}
 use Rattle.record_writer.specs.Fit.{Fits}
 use Rattle.record_writer.proofs.FitLemmas.{body_fits}
@@ -97,7 +97,7 @@ new-writable {order} {e} {reading} {body} is instance values ready few small =
 -- ---- the values of its label, with other links or without
 
 pub ready-plain : {order : Order} {e : Entry} {reading : Reading} {body : List ℕ} → IsSourceBody order e reading body
-    → AreReady reading (cleared reading.fields (map unlinked reading.values))
+    → AreReady reading (with_sums_cleared reading.fields (map unlinked reading.values))
 ready-plain {order} {e} {reading} {body} is = (
   label-stands reading.fields reading.values (is-layout is).sums (source-fits is),
   label-range order reading.fields reading.values reading.tail body is.bytes is.spelled,
@@ -105,7 +105,7 @@ ready-plain {order} {e} {reading} {body} is = (
 
 pub ready-linked : {order : Order} {e : Entry} {reading : Reading} {body : List ℕ} → IsSourceBody order e reading body
     → (links : List StructLink) → length links ≡ length (links_in reading.values) → All IsLinkInRange links
-    → AreReady reading (linked (cleared reading.fields (map unlinked reading.values)) links)
+    → AreReady reading (with_links (with_sums_cleared reading.fields (map unlinked reading.values)) links)
 ready-linked {order} {e} {reading} {body} is links many range = (
   linked-label-stands reading.fields reading.values links (is-layout is).sums (source-fits is) many,
   linked-label-range order reading.fields reading.values reading.tail body links is.bytes is.spelled range,

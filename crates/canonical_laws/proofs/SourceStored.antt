@@ -281,8 +281,10 @@ module _ (order : Order) (held : List Entry) (frame : List Structure) (load : �
 
   row-is : (k : ℕ) → k < n → row_at f k ≡ row_of order held nodes (bodied_of held (structure_in frame k))
   row-is k less =
-      get_or-map (row_of order held nodes) nodes k (bodied_of held no_structure) no_row (omega (arith, nodes-long, less))
-      ∙ ap (row_of order held nodes) (get_or-map (bodied_of held) frame k no_structure (bodied_of held no_structure) less)
+      get_or-map (row_of order held nodes) nodes k (bodied_of held no_structure) no_row
+      (omega (arith, nodes-long, less))
+      ∙ ap (row_of order held nodes)
+      (get_or-map (bodied_of held) frame k no_structure (bodied_of held no_structure) less)
 
   label-kind : (t : Structure) → (here : IsSourceRecord order held t)
       → kind_named (label_of order held (bodied_of held t)).entry.name ≡ kind_of held t.class

@@ -17,7 +17,7 @@ use Rattle.canonical_file.specs.declared.closing.Closing.{Closing}
 use Rattle.canonical_file.specs.Ranges.{AreBytes}
 use Rattle.canonical_file.specs.Ordered.{IsInOrder}
 use Rattle.canonical_file.specs.Records.{records_of}
-use Rattle.canonical_file.specs.Written.{Written, begun, after_frame, after_frames, canonical_file}
+use Rattle.canonical_file.specs.Written.{Written, header_alone, after_frame, after_frames, canonical_file}
 use Rattle.canonical_file.specs.Contents.{Content}
 use Rattle.canonical_file.specs.Splices.{NoneClashes, frame_under, as_used, frames_in, IsSplice}
 use Rattle.canonical_laws.specs.Content.{content_of, HasContent}
@@ -133,8 +133,8 @@ more_spliced closing front back more s all none =
       closing_is = s.closing_is;
       front_are = s.front_are;
       back_are = all-append IsWritableSomewhere back more s.back_are all;
-      back_agrees = none-append (Some closing) (after_frames begun front) back more s.back_agrees
-          (subst Free (fold-append after_frame begun front back) none);
+      back_agrees = none-append (Some closing) (after_frames header_alone front) back more s.back_agrees
+          (subst Free (fold-append after_frame header_alone front back) none);
     }
 
 -- ---- splices
@@ -160,12 +160,12 @@ of-files file files first others c bytes all_bytes has all_have s =
     let back = in-orders (frames_in others) s.back (all-sources files others all_bytes all_have) s.back_in_order in
     let spliced = more_spliced first.closing s.front [] s.back
     (first_spliced file first s.front bytes has s.front_in_order) (all-somewhere s.back back)
-    (subst (λ fs. NoneClashes (Some first.closing) (after_frames begun fs) s.back) (sym (append-nil s.front))
+    (subst (λ fs. NoneClashes (Some first.closing) (after_frames header_alone fs) s.back) (sym (append-nil s.front))
     s.back_agrees) in
     let are = joined first.closing s.front s.back spliced in
     record {
       spliced = spliced;
-      read = read-under (after_frames begun (s.front ++ s.back)).entries (s.front ++ s.back) are.under
+      read = read-under (after_frames header_alone (s.front ++ s.back)).entries (s.front ++ s.back) are.under
           (all-append IsOrderedSource s.front s.back front back);
     }
 

@@ -18,7 +18,7 @@ use Rattle.file_grammar.specs.Kind.{kind_named, is_frame_kind}
 use Rattle.frame_content.specs.Frames.{Frame}
 use Rattle.canonical_file.specs.declared.closing.Closing.{Closing}
 use Rattle.canonical_file.specs.Records.{records_of}
-use Rattle.canonical_file.specs.Written.{begun, after_frames, closing_part}
+use Rattle.canonical_file.specs.Written.{header_alone, after_frames, closing_part}
 use Rattle.canonical_file.specs.Splices.{closing_entries, NoneClashes, frame_under, as_used}
 use Rattle.canonical_file.proofs.UsedFrames.{AgreeAll, frames-same}
 use Rattle.canonical_laws.specs.Writable.{IsWritableFrame, IsWritableFileEnd, IsWritableTable, IsWritableClosing}
@@ -117,38 +117,38 @@ frames-writable used more (f ∷ fs) usable under all = (
 
 -- What is known of frames that are spliced.
 pub record AreJoined (c : Closing) (fs : List Frame) : Type 0 where
-  pub agree : AgreeAll begun fs
-  pub usable : AreUsable (closing_entries c) (after_frames begun fs).entries
+  pub agree : AgreeAll header_alone fs
+  pub usable : AreUsable (closing_entries c) (after_frames header_alone fs).entries
   pub somewhere_are : AllByRecursion IsWritableSomewhere fs
-  pub under : AllByRecursion (λ (f : Frame). AreUnder (after_frames begun fs).entries (records_of f)) fs
+  pub under : AllByRecursion (λ (f : Frame). AreUnder (after_frames header_alone fs).entries (records_of f)) fs
 
 -- frames that are spliced agree, and the entries that they use are usable
 pub joined : (c : Closing) (front back : List Frame) → AreSpliced c front back → AreJoined c (front ++ back)
 joined c front back s =
     let part = closing-part s.dictionary c s.sound s.closing_is in
-    let none : NoneClashes (Some c) begun (front ++ back) =
-    none-append (Some c) begun front back
-    (frames-free s.dictionary c begun front s.sound (closing-in s.dictionary c s.closing_is) tt s.front_are)
+    let none : NoneClashes (Some c) header_alone (front ++ back) =
+    none-append (Some c) header_alone front back
+    (frames-free s.dictionary c header_alone front s.sound (closing-in s.dictionary c s.closing_is) tt s.front_are)
     s.back_agrees in
     let all : AllByRecursion IsWritableSomewhere (front ++ back) =
     all-append IsWritableSomewhere front back (somewhere s.dictionary front s.sound s.front_are) s.back_are in
-    let uses = use-frames c begun (front ++ back) (closing-kinds s.dictionary c s.closing_is)
+    let uses = use-frames c header_alone (front ++ back) (closing-kinds s.dictionary c s.closing_is)
     (record { entries = tt; sound = part.sound }) all none in
-    let used : List Entry = (after_frames begun (front ++ back)).entries in
+    let used : List Entry = (after_frames header_alone (front ++ back)).entries in
     record {
       agree = uses.0;
       usable = uses.1;
       somewhere_are = all;
-      under = under-frames begun used [] (front ++ back) (sym (append-nil used)) uses.0;
+      under = under-frames header_alone used [] (front ++ back) (sym (append-nil used)) uses.0;
     }
 
 -- they can be written by one dictionary, under which the same is written
 pub together : SplicedFramesAreWrittenTogether
 together c front back s =
     let fs : List Frame = front ++ back in
-    let used : List Entry = (after_frames begun fs).entries in
+    let used : List Entry = (after_frames header_alone fs).entries in
     let are = joined c front back s in
-    let same = frames-same begun used [] fs (sym (append-nil used)) are.agree in
+    let same = frames-same header_alone used [] fs (sym (append-nil used)) are.agree in
     record {
       can_be = record {
         dictionary = used ++ closing_entries c;
@@ -164,7 +164,7 @@ together c front back s =
 
 as-many : (fs : List Frame) → length fs ≤ frames_limit → length (as_used fs) ≤ frames_limit
 as-many fs few =
-    subst (λ n. n ≤ frames_limit) (sym (length-map fs (frame_under (after_frames begun fs).entries))) few
+    subst (λ n. n ≤ frames_limit) (sym (length-map fs (frame_under (after_frames header_alone fs).entries))) few
 
 -- no part of their head is well-formed
 pub no_part_of_a_spliced_head : NoPartOfASplicedHeadIsWhole

@@ -9,7 +9,7 @@ use Rattle.rooted_graph.proofs.Ordered.{counts_up}
 use Rattle.dictionary.specs.declared.entries.Entry.{Entry}
 use Rattle.frame_content.specs.Frames.{Row, Frame, row_at}
 use Rattle.canonical_file.specs.Ordered.{row_links, frame_graph, row_in, ordered, IsInOrder}
-use Rattle.canonical_file.specs.Written.{begun, after_frames}
+use Rattle.canonical_file.specs.Written.{header_alone, after_frames}
 use Rattle.canonical_file.specs.Contents.{Content}
 use Rattle.canonical_file.specs.Splices.{row_under, frame_under, as_used, frames_in}
 use Rattle.canonical_file.proofs.Graphs.{graph-ordered}
@@ -88,7 +88,7 @@ side-by-side used (o ∷ os) all = (all.0, side-by-side used os all.1)
 pub splices_canonical : SplicesAreCanonical
 splices_canonical first others c s =
     let fs : List Frame = s.front ++ s.back in
-    let used : List Entry = (after_frames begun fs).entries in
+    let used : List Entry = (after_frames header_alone fs).entries in
     let orders : AllZip IsInOrder (as_used fs) (as_used fs) =
     side-by-side used fs (all-append (λ (o : Frame). IsInItsOrder (frame_under used o)) s.front s.back
     (orders-again used first.frames s.front s.front_in_order)

@@ -9,7 +9,8 @@ use Rattle.file_grammar.proofs.Prefixes.{items_unique}
 use Rattle.file_content.specs.declared.state.TableState.TheVariants as state
 use Rattle.file_content.specs.Stored.{table_in, seek_in}
 use Rattle.file_content.specs.Contents.{IsState, seek_or_none, AreContents}
-use Rattle.canonical_file.specs.Written.{Written, begun, after_frames, after_table, table_piece, end_size, way_back}
+use Rattle.canonical_file.specs.Written.{Written, header_alone, after_frames, after_table, table_piece, end_size}
+use Rattle.canonical_file.specs.Written.{way_back}
 use Rattle.canonical_file.specs.Written.{canonical_file}
 use Rattle.canonical_laws.specs.Writable.{IsWritableFileEnd, IsWritableTable}
 use Rattle.canonical_laws.specs.Laws.{UnwrittenTablesAreNone}
@@ -23,12 +24,12 @@ unwritten dictionary fs closing c sound frames writable few limit contents none 
     by : (e : Entry) (table : Option Entry) → IsWritableFileEnd dictionary e → IfSome table (IsWritableTable dictionary)
         → length (canonical_file (record { end = e; table = table }) fs) ≤ file_limit
         → AreContents (canonical_file (record { end = e; table = table }) fs) c
-        → (table_piece (after_frames begun fs) (record { end = e; table = table })).record_itself ≡ []
+        → (table_piece (after_frames header_alone fs) (record { end = e; table = table })).record_itself ≡ []
         → c.table ≡ state.None
     by e table end table_is limit contents none =
         let all : AreWritten dictionary fs = record { sound = sound; frames = frames; few = few } in
         let stands = file-stands dictionary fs e table all end table_is limit in
-        let w : Written = after_frames begun fs in
+        let w : Written = after_frames header_alone fs in
         let file : List ℕ = canonical_file (record { end = e; table = table }) fs in
         let same = items_unique file c.order Little contents.items (file_items fs e table) contents.last
         (file_last fs e table) contents.well_formed stands.well_formed in

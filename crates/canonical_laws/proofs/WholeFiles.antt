@@ -16,7 +16,7 @@ use Rattle.frame_content.specs.Frames.{Frame}
 use Rattle.file_content.specs.Stored.{StoredFrame, frame_ended, table_here, seek_told, frames_in}
 use Rattle.file_content.specs.Contents.{built_of}
 use Rattle.canonical_file.specs.declared.closing.Closing.{Closing}
-use Rattle.canonical_file.specs.Written.{Written, begun, after_frames, after_table, closing_part, canonical_head}
+use Rattle.canonical_file.specs.Written.{Written, header_alone, after_frames, after_table, closing_part, canonical_head}
 use Rattle.canonical_file.specs.Written.{canonical_file}
 use Rattle.canonical_file.proofs.Sizes.{head-size, file-size}
 use Rattle.canonical_laws.specs.Content.{closing_by}
@@ -48,7 +48,7 @@ pub nothing-between : (dictionary : List Entry) → IsBetween dictionary nothing
 nothing-between dictionary =
     record { entries = tt; frame = refl; load = refl; unclosed = refl; no_table = refl }
 
-pub begun-tells : Tells begun nothing_yet
+pub begun-tells : Tells header_alone nothing_yet
 begun-tells = record { size = refl; entries = refl; count = refl }
 
 -- What is known of frames that are to be written.
@@ -58,23 +58,23 @@ pub record AreWritten (dictionary : List Entry) (fs : List Frame) : Type 0 where
   pub few : length fs ≤ frames_limit
 
 pub needed : (dictionary : List Entry) (fs : List Frame) → AreWritten dictionary fs
-    → AreNeeded dictionary (after_frames begun fs).entries
-needed dictionary fs all = frames-needed dictionary begun fs (none-needed dictionary) all.frames
+    → AreNeeded dictionary (after_frames header_alone fs).entries
+needed dictionary fs all = frames-needed dictionary header_alone fs (none-needed dictionary) all.frames
 
 -- the head of a file that begins with it
 pub whole-head : (dictionary : List Entry) (fs : List Frame) (more : List ℕ) → AreWritten dictionary fs
     → length (canonical_head fs ++ more) ≤ file_limit
-    → HeadStands dictionary (canonical_head fs ++ more) begun nothing_yet fs
+    → HeadStands dictionary (canonical_head fs ++ more) header_alone nothing_yet fs
 whole-head dictionary fs more all limit =
-    let parts : List ℕ = part_bytes begun fs in
-    let few = few-needed dictionary (after_frames begun fs).entries all.sound (needed dictionary fs all) in
+    let parts : List ℕ = part_bytes header_alone fs in
+    let few = few-needed dictionary (after_frames header_alone fs).entries all.sound (needed dictionary fs all) in
     let h : Holds (canonical_head fs ++ more) 40 parts = record {
       front = header_bytes;
       rest = more;
       split = append_assoc header_bytes parts more;
       place = header_bytes-length;
     } in
-    head-stands dictionary (canonical_head fs ++ more) begun nothing_yet fs all.sound all.frames
+    head-stands dictionary (canonical_head fs ++ more) header_alone nothing_yet fs all.sound all.frames
     (nothing-between dictionary) begun-tells (omega (arith, all.few)) (omega (arith, few)) limit h
 
 -- ---- the file
@@ -83,11 +83,11 @@ whole-head dictionary fs more all limit =
 pub closes : (dictionary : List Entry) (fs : List Frame) (e : Entry) (table : Option Entry) → AreWritten dictionary fs
     → IsWritableFileEnd dictionary e → IfSome table (IsWritableTable dictionary)
     → length (canonical_file (record { end = e; table = table }) fs) ≤ file_limit
-    → Closes dictionary (canonical_file (record { end = e; table = table }) fs) (after_frames begun fs)
+    → Closes dictionary (canonical_file (record { end = e; table = table }) fs) (after_frames header_alone fs)
     (after_all nothing_yet fs) e table
 closes dictionary fs e table all end table_is limit =
     let c : Closing = record { end = e; table = table } in
-    let w : Written = after_frames begun fs in
+    let w : Written = after_frames header_alone fs in
     let closing : List ℕ = closing_part w c in
     let head = whole-head dictionary fs closing all limit in
     let b : Before = after_all nothing_yet fs in
@@ -97,7 +97,7 @@ closes dictionary fs e table all end table_is limit =
       between = head.between;
       tells = head.tells;
       needed = subst (AreNeeded dictionary) head.tells.entries (needed dictionary fs all);
-      frames = omega (arith, count-frames begun fs, all.few);
+      frames = omega (arith, count-frames header_alone fs, all.few);
       end = end;
       table_is = table_is;
       limit = limit;
@@ -112,14 +112,14 @@ closes dictionary fs e table all end table_is limit =
 
 -- the entries, the items and the end of the whole file
 abbrev pub all_entries : List Frame → Closing → List Entry
-all_entries fs c = (after_table (after_frames begun fs) c).entries ++ c.end ∷ []
+all_entries fs c = (after_table (after_frames header_alone fs) c).entries ++ c.end ∷ []
 
 abbrev pub file_items : List Frame → Entry → Option Entry → List Item
 file_items fs e table =
-    frames_items nothing_yet fs ++ all_items (after_frames begun fs) (after_all nothing_yet fs) e table
+    frames_items nothing_yet fs ++ all_items (after_frames header_alone fs) (after_all nothing_yet fs) e table
 
 abbrev pub file_last : List Frame → Entry → Option Entry → Before
-file_last fs e table = after_closing (after_frames begun fs) (after_all nothing_yet fs) e table
+file_last fs e table = after_closing (after_frames header_alone fs) (after_all nothing_yet fs) e table
 
 -- What is known of the whole file.
 pub record StandsAs (fs : List Frame) (e : Entry) (table : Option Entry) : Type 0 where
@@ -128,11 +128,11 @@ pub record StandsAs (fs : List Frame) (e : Entry) (table : Option Entry) : Type 
   pub frames : read_from nothing_yet (file_items fs e table) ≡ map as_read fs
   pub dictionary : (file_last fs e table).dictionary ≡ all_entries fs (record { end = e; table = table })
   pub tables : brings table_here nothing_yet (file_items fs e table)
-      ≡ written_table (after_frames begun fs) (after_all nothing_yet fs) table
+      ≡ written_table (after_frames header_alone fs) (after_all nothing_yet fs) table
   pub seeks : brings (seek_told Little) nothing_yet (file_items fs e table)
-      ≡ told_seek (after_frames begun fs) e table ∷ []
-  pub channels : built_of Little (frames_in Little (file_items fs e table)) ≡ (after_frames begun fs).built
-  pub count : (file_last fs e table).frames ≡ (after_frames begun fs).frames
+      ≡ told_seek (after_frames header_alone fs) e table ∷ []
+  pub channels : built_of Little (frames_in Little (file_items fs e table)) ≡ (after_frames header_alone fs).built
+  pub count : (file_last fs e table).frames ≡ (after_frames header_alone fs).frames
 
 pub file-stands : (dictionary : List Entry) (fs : List Frame) (e : Entry) (table : Option Entry)
     → AreWritten dictionary fs
@@ -142,7 +142,7 @@ pub file-stands : (dictionary : List Entry) (fs : List Frame) (e : Entry) (table
 file-stands dictionary fs e table all end table_is limit =
     let c : Closing = record { end = e; table = table } in
     let file : List ℕ = canonical_file c fs in
-    let w : Written = after_frames begun fs in
+    let w : Written = after_frames header_alone fs in
     let closing : List ℕ = closing_part w c in
     let b : Before = after_all nothing_yet fs in
     let head = whole-head dictionary fs closing all limit in
@@ -162,10 +162,10 @@ file-stands dictionary fs e table all end table_is limit =
           size = omega (
             arith,
             length-append (canonical_head fs) closing,
-            length-append header_bytes (part_bytes begun fs),
+            length-append header_bytes (part_bytes header_alone fs),
             header_bytes-length,
           );
-          header = header-read (part_bytes begun fs) closing;
+          header = header-read (part_bytes header_alone fs) closing;
           stand = stand-append Little file nothing_yet b (after_closing w b e table) (frames_items nothing_yet fs) more
               head.stand stand;
         };
@@ -200,7 +200,7 @@ read_back dictionary fs closing sound frames writable few limit =
         → ReadsBack (canonical_file (record { end = e; table = table }) fs) (record { end = e; table = table }) fs
     by e table end table_is limit =
         let all : AreWritten dictionary fs = record { sound = sound; frames = frames; few = few } in
-        let es : List Entry = (after_frames begun fs).entries in
+        let es : List Entry = (after_frames header_alone fs).entries in
         let stands = file-stands dictionary fs e table all end table_is limit in
         let closing_is : closing_by (file_last fs e table).dictionary ≡ record { end = e; table = table } =
         ap closing_by stands.dictionary ∙ closing-back dictionary es e table (needed dictionary fs all) end table_is in

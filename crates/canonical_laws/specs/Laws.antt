@@ -15,7 +15,8 @@ use Rattle.file_content.specs.Contents.{AreContents}
 use Rattle.canonical_file.specs.declared.closing.Closing.{Closing}
 use Rattle.canonical_file.specs.Ranges.{AreBytes}
 use Rattle.canonical_file.specs.Ordered.{SameFrame, IsInOrder}
-use Rattle.canonical_file.specs.Written.{begun, frame_part, after_frames, table_piece, canonical_head, canonical_file}
+use Rattle.canonical_file.specs.Written.{header_alone, frame_part, after_frames, table_piece, canonical_head}
+use Rattle.canonical_file.specs.Written.{canonical_file}
 use Rattle.canonical_file.specs.Contents.{Content, SameContent, IsCanonical}
 use Rattle.canonical_laws.specs.Content.{content_of, HasContent}
 use Rattle.canonical_laws.specs.Writable.{IsWritableFrame, as_read, IsWritableClosing}
@@ -46,7 +47,7 @@ UnwrittenTablesAreNone =
     → AllByRecursion (IsWritableFrame dictionary) frames → IsWritableClosing dictionary closing
     → length frames ≤ frames_limit → length (canonical_file closing frames) ≤ file_limit
     → AreContents (canonical_file closing frames) c
-    → (table_piece (after_frames begun frames) closing).record_itself ≡ [] → c.table ≡ state.None
+    → (table_piece (after_frames header_alone frames) closing).record_itself ≡ [] → c.table ≡ state.None
 
 -- The contents table of such a file is good where its record is written.
 abbrev pub WrittenTablesAreGood : Type 0
@@ -55,7 +56,7 @@ WrittenTablesAreGood =
     → AllByRecursion (IsWritableFrame dictionary) frames → IsWritableClosing dictionary closing
     → length frames ≤ frames_limit → length (canonical_file closing frames) ≤ file_limit
     → AreContents (canonical_file closing frames) c
-    → ((table_piece (after_frames begun frames) closing).record_itself ≡ [] → ⊥) → c.table ≡ state.Good
+    → ((table_piece (after_frames header_alone frames) closing).record_itself ≡ [] → ⊥) → c.table ≡ state.Good
 
 -- ---- parts of canonical files
 
@@ -118,4 +119,4 @@ abbrev pub PartsTellFrames : Type 0
 PartsTellFrames =
     (dictionary other : List Entry) (f g o p : Frame) → IsDictionary dictionary → IsDictionary other
     → IsInOrder f o → IsInOrder g p → IsWritableInOrder dictionary f → IsWritableInOrder other g
-    → (frame_part begun o ≡ frame_part begun p) ↔ SameFrame f g
+    → (frame_part header_alone o ≡ frame_part header_alone p) ↔ SameFrame f g

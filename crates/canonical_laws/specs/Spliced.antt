@@ -13,7 +13,7 @@ use Rattle.frame_content.specs.Frames.{Frame}
 use Rattle.canonical_file.specs.declared.closing.Closing.{Closing}
 use Rattle.canonical_file.specs.Ranges.{AreBytes}
 use Rattle.canonical_file.specs.Ordered.{IsInOrder}
-use Rattle.canonical_file.specs.Written.{begun, after_frames, canonical_head, canonical_file}
+use Rattle.canonical_file.specs.Written.{header_alone, after_frames, canonical_head, canonical_file}
 use Rattle.canonical_file.specs.Contents.{Content, IsCanonical}
 use Rattle.canonical_file.specs.Splices.{NoneClashes, as_used, IsSplice}
 use Rattle.canonical_laws.specs.Content.{content_of, HasContent}
@@ -36,7 +36,7 @@ pub record AreSpliced (closing : Closing) (front back : List Frame) : Type 0 whe
   pub closing_is : IsWritableClosing dictionary closing
   pub front_are : AllByRecursion (IsWritableFrame dictionary) front
   pub back_are : AllByRecursion IsWritableSomewhere back
-  pub back_agrees : NoneClashes (Some closing) (after_frames begun front) back
+  pub back_agrees : NoneClashes (Some closing) (after_frames header_alone front) back
 
 -- A closing and frames can be written by one dictionary.
 pub record CanBeWritten (closing : Closing) (frames : List Frame) : Type 0 where
@@ -101,7 +101,8 @@ abbrev pub MoreFramesAreSpliced : Type 0
 MoreFramesAreSpliced =
     (closing : Closing) (front back more : List Frame) → AreSpliced closing front back
     → AllByRecursion IsWritableSomewhere more
-    → NoneClashes (Some closing) (after_frames begun (front ++ back)) more → AreSpliced closing front (back ++ more)
+    → NoneClashes (Some closing) (after_frames header_alone (front ++ back)) more
+    → AreSpliced closing front (back ++ more)
 
 -- ---- splices
 

@@ -10,7 +10,7 @@ use Rattle.dictionary.specs.Dictionary.{entry_of}
 use Rattle.dictionary.specs.Same.{IsRead}
 use Rattle.layout_plan.specs.declared.fields.Field.{Field}
 use Rattle.layout_plan.specs.Layout.{layout_of}
-use Rattle.layout_plan.specs.Written.{cleared}
+use Rattle.layout_plan.specs.Written.{with_sums_cleared}
 use Rattle.link_graph.specs.Table.{IsWithin}
 use Rattle.record_writer.specs.Fit.{IsShortText, Fits}
 use Rattle.file_grammar.specs.declared.kind.Kind.{Kind}
@@ -60,7 +60,7 @@ pub record IsWritable (r : Record) : Type 0 where
 -- What is a label: its entry is printed, its links are null and its check sum is 0.
 pub record IsLabel (l : Label) : Type 0 where
   pub entry : printed_entry l.entry ≡ l.entry
-  pub values : cleared (entry_fields l.entry) (map unlinked l.values) ≡ l.values
+  pub values : with_sums_cleared (entry_fields l.entry) (map unlinked l.values) ≡ l.values
 
 -- A row among so many: it has a label, and a link for each link of its values, null or to one of the rows.
 pub record IsRow (rows : ℕ) (r : Row) : Type 0 where

@@ -8,7 +8,7 @@ use Rattle.std.proofs.lemmas.Slice.Eq.{bytes_eq-Decides}
 use Rattle.std.proofs.lemmas.List.{take_more, map-append, get_or-map}
 use Rattle.std.proofs.lemmas.List.Elements.{All-head, All-tail}
 use Rattle.type_text.specs.declared.types.ElementType.{ElementType}
-use Rattle.type_text.specs.TypeText.{printed}
+use Rattle.type_text.specs.TypeText.{printed_type}
 use Rattle.dictionary.specs.declared.entries.Element.{Element}
 use Rattle.dictionary.specs.declared.entries.Entry.{Entry}
 use Rattle.dictionary.specs.Same.{IsRead, AreRead, Meaning, meaning_by, column_of, IsSameEntry}
@@ -58,9 +58,9 @@ meaning-type None (Some t) a b same = cc
 meaning-type (Some s) None a b same = cc
 
 meaning-text : (s t : Option ElementType) (a b : List ℕ) → meaning_by s a ≡ meaning_by t b
-    → option_map_or printed s a ≡ option_map_or printed t b
+    → option_map_or printed_type s a ≡ option_map_or printed_type t b
 meaning-text None None a b same = cc
-meaning-text (Some s) (Some t) a b same = let types : s ≡ t = cc in ap printed types
+meaning-text (Some s) (Some t) a b same = let types : s ≡ t = cc in ap printed_type types
 meaning-text None (Some t) a b same = cc
 meaning-text (Some s) None a b same = cc
 
@@ -85,7 +85,7 @@ column-shown : (e : Element) → IsRead e → column_of e ≡ shown (printed_ele
 column-shown e read =
     ap (λ ty. (e.name, meaning_by ty e.text)) (sym read) ∙ ap (λ (m : Meaning). (e.name, m)) (by e.ty)
   where
-    by : (ty : Option ElementType) → meaning_by ty e.text ≡ meaning_by ty (option_map_or printed ty e.text)
+    by : (ty : Option ElementType) → meaning_by ty e.text ≡ meaning_by ty (option_map_or printed_type ty e.text)
     by None = refl
     by (Some ty) = refl
 

@@ -1,11 +1,13 @@
 -- Entries that clash with those used: with the entries that stand, and with those of the closing.
-use Rattle.std.proofs.Common.{◌≡◌, ◌≢◌, ℕ, Bool, true, false, not, ◌||◌, cond, List, [], ◌∷◌, ◌++◌, All, Option, Some, None}
+use Rattle.std.proofs.Common.{◌≡◌, ◌≢◌, ℕ, Bool, true, false, not, ◌||◌, cond, List, [], ◌∷◌, ◌++◌, All, Option, Some}
+use Rattle.std.proofs.Common.{None}
 use Rattle.std.proofs.Common.{find, Result, Ok, Err, OnOk, refl, sym, ap, ◌∙◌, subst, eqb}
 use Rattle.std.specs.Prelude.{is_some, ◌==◌}
 use Rattle.std.specs.Option.{option_map, option_map_or, option_or}
 use Rattle.std.specs.Str.{bytes_eq}
 use Rattle.std.proofs.lemmas.Bool.{true≢false, eqb-true, eq-eqb}
-use Rattle.std.proofs.lemmas.List.Elements.{All-head, All-tail, All-nil, All-cons, All-append, All-weaker, recursion_from_All}
+use Rattle.std.proofs.lemmas.List.Elements.{All-head, All-tail, All-nil, All-cons, All-append, All-weaker}
+use Rattle.std.proofs.lemmas.List.Elements.{recursion_from_All}
 use Rattle.std.proofs.lemmas.List.Folds.{find-append}
 use Rattle.std.proofs.lemmas.Option.{none-some, same_Some}
 use Rattle.std.proofs.lemmas.Slice.Eq.{bytes_eq-Decides}
@@ -72,7 +74,8 @@ of-two : (used more : List Entry) (class : ℕ)
 of-two used more class = find-append (λ (e : Entry). class == e.class) used more
 
 named-two : (used more : List Entry) (name : List ℕ)
-    → class_named (used ++ more) name ≡ option_map (λ (e : Entry). e.class) (option_or (named used name) (named more name))
+    → class_named (used ++ more) name
+    ≡ option_map (λ (e : Entry). e.class) (option_or (named used name) (named more name))
 named-two used more name =
     ap (option_map (λ (e : Entry). e.class)) (find-append (λ (e : Entry). bytes_eq name e.name) used more)
 
@@ -93,7 +96,8 @@ clashes-standing used more e old there =
 pub clashes-first : (first e : Entry) (more : List Entry) → first.class ≡ e.class → AreRead e.elements
     → clashes (first ∷ more) (printed_entry e) ≡ not (same_entries first e)
 clashes-first first e more same read =
-    ap (λ b. clashes_by (cond b (Some first) (entry_of more e.class)) (class_named (first ∷ more) e.name) (printed_entry e))
+    ap (λ b. clashes_by (cond b (Some first) (entry_of more e.class)) (class_named (first ∷ more) e.name)
+    (printed_entry e))
     (eq-eqb e.class first.class (sym same))
     ∙ ap not (same-printed first e read)
 
@@ -101,7 +105,8 @@ clashes-later : (first e : Entry) (more : List Entry) → (first.class ≡ e.cla
     → clashes (first ∷ more) (printed_entry e)
     ≡ clashes_by (entry_of more e.class) (class_named (first ∷ more) e.name) (printed_entry e)
 clashes-later first e more other =
-    ap (λ b. clashes_by (cond b (Some first) (entry_of more e.class)) (class_named (first ∷ more) e.name) (printed_entry e))
+    ap (λ b. clashes_by (cond b (Some first) (entry_of more e.class)) (class_named (first ∷ more) e.name)
+    (printed_entry e))
     (unlike e.class first.class (λ same. other (sym same)))
 
 pub clashes-second : (first second e : Entry) → (first.class ≡ e.class → ⊥) → second.class ≡ e.class
@@ -184,7 +189,8 @@ clashes-neither : (used more : List Entry) (e : Entry) → entry_of used e.class
     → clashes more e ≡ false → clashes (used ++ more) e ≡ false
 clashes-neither used more e none first second =
     clashes-new used more e none
-    ∙ by (entry_of more e.class) (named used e.name) (named more e.name) (sym (clashes-alone used e none) ∙ first) second
+    ∙ by (entry_of more e.class) (named used e.name) (named more e.name)
+    (sym (clashes-alone used e none) ∙ first) second
   where
     by : (old found others : Option Entry) → is_some found ≡ false
         → clashes_by old (option_map (λ (e : Entry). e.class) others) e ≡ false
@@ -205,7 +211,8 @@ none-stands inside used class e same none class_is =
 same-name : (more : List Entry) (e old : Entry) → entry_of more e.class ≡ Some old → clashes more e ≡ false
     → IsSameEntry old e
 same-name more e old there none =
-    (entries-Decides old e).0 (by (same_entries old e) (sym (ap (λ o. clashes_by o (class_named more e.name) e) there) ∙ none))
+    (entries-Decides old e).0
+    (by (same_entries old e) (sym (ap (λ o. clashes_by o (class_named more e.name) e) there) ∙ none))
   where
     by : (b : Bool) → not b ≡ false → b ≡ true
     by true is = refl
@@ -224,11 +231,13 @@ clashes-named used more e none clash apart agree =
         let same = same-name more e old there apart in
         let class : class_named (used ++ more) old.name ≡ Some old.class =
         found-has (λ (e : Entry). class_named (used ++ more) e.name ≡ Some e.class) (λ (x : Entry). e.class == x.class)
-        more old (all-parts (λ (e : Entry). class_named (used ++ more) e.name ≡ Some e.class) used more agree).1 there in
+        more old (all-parts (λ (e : Entry). class_named (used ++ more) e.name
+        ≡ Some e.class) used more agree).1 there in
         let first : class_named (used ++ more) e.name ≡ Some found.class = named-two used more e.name
         ∙ ap (λ o. option_map (λ (e : Entry). e.class) (option_or o (named more e.name))) here in
         other-class used e.class e.name found none here
-        (same_Some found.class e.class (sym first ∙ ap (class_named (used ++ more)) (sym same.name) ∙ class ∙ ap Some same.class))
+        (same_Some found.class e.class
+        (sym first ∙ ap (class_named (used ++ more)) (sym same.name) ∙ class ∙ ap Some same.class))
 
     by : (old : Option Entry) → entry_of more e.class ≡ old → (found : Option Entry) → named used e.name ≡ found
         → is_some found ≡ true
@@ -283,7 +292,8 @@ consistent-more used more e none first second agree =
     keeps : (x : Entry) → Now x → Then x
     keeps x now =
         three x.name
-        ∙ by (named used x.name) (bytes_eq x.name e.name) refl (named more x.name) refl (sym (named-two used more x.name) ∙ now)
+        ∙ by (named used x.name) (bytes_eq x.name e.name) refl (named more x.name) refl
+        (sym (named-two used more x.name) ∙ now)
       where
         by : (found : Option Entry) (b : Bool) → bytes_eq x.name e.name ≡ b → (others : Option Entry)
             → named more x.name ≡ others → class_by found others ≡ Some x.class

@@ -1,6 +1,8 @@
 -- The closing part of a file, byte for byte.
-use Rattle.std.proofs.Common.{◌≡◌, ℕ, zero, suc, ◌+◌, ◌*◌, ◌-◌, ◌≤◌, Bool, true, false, cond, List, [], ◌∷◌, ◌++◌, length}
-use Rattle.std.proofs.Common.{take, drop, flat_map, sum_by, Option, Some, None, refl, sym, ap, ◌∙◌, subst, arith, append_assoc}
+use Rattle.std.proofs.Common.{◌≡◌, ℕ, zero, suc, ◌+◌, ◌*◌, ◌-◌, ◌≤◌, Bool, true, false, cond, List, [], ◌∷◌, ◌++◌}
+use Rattle.std.proofs.Common.{length}
+use Rattle.std.proofs.Common.{take, drop, flat_map, sum_by, Option, Some, None, refl, sym, ap, ◌∙◌, subst, arith}
+use Rattle.std.proofs.Common.{append_assoc}
 use Rattle.std.proofs.Common.{append-nil, Result, Ok, Err, OnOk, IfOk, IfSome}
 use Rattle.std.specs.Prelude.{◌==◌, codes, nat_le, unwrap_or}
 use Rattle.std.specs.Option.{option_or}
@@ -170,7 +172,8 @@ pub table-refused : (class : ℕ) (layout : TableLayout) (fields : List Field) (
     → Appends (IsTable class layout fields built 0) old new
 table-refused class layout fields built start old begun mid new large start_is room same cut = record {
   items = [];
-  whole = cut ∙ (λ i. take (start_is i) ((same ∙ room.whole) i)) ∙ take-append_seam old room.items ∙ sym (append-nil old);
+  whole = cut ∙ (λ i. take (start_is i) ((same ∙ room.whole) i)) ∙ take-append_seam old room.items
+      ∙ sym (append-nil old);
   related = (sym (table-beyond class layout fields built large), refl);
 }
 
@@ -183,7 +186,8 @@ pub structure-ended : (class instance start : ℕ) (P : List ℕ → Type 0) (ol
 structure-ended class instance start P old begun mid new start_is room body ended =
     let whole : mid ≡ old ++ (room.items ++ body.items) = body.whole ∙ ap (λ xs. xs ++ body.items) room.whole
     ∙ append_assoc old room.items body.items in
-    let front : take start mid ≡ old = (λ i. take (start_is i) (whole i)) ∙ take-append_seam old (room.items ++ body.items) in
+    let front : take start mid ≡ old = (λ i. take (start_is i) (whole i))
+    ∙ take-append_seam old (room.items ++ body.items) in
     let back : drop (start + 14) mid ≡ body.items = (λ i. drop (start_is i + 14) (whole i))
     ∙ drop-append-add old (room.items ++ body.items) 14
     ∙ ap (λ n. drop n (room.items ++ body.items)) (sym room.related) ∙ drop-append_seam room.items body.items in
@@ -214,7 +218,8 @@ pub table-written : (class : ℕ) (layout : TableLayout) (fields : List Field) (
     → Appends (IsTable class layout fields built size) old new × (size ≤ record_limit)
 table-written class layout fields built start size old begun mid new bytes small start_is room body ended size_is =
     let values = table_values layout fields built in
-    let made = structure-ended class 0 start (IsWritten Little fields values) old begun mid new start_is room body ended in
+    let made = structure-ended class 0 start
+    (IsWritten Little fields values) old begun mid new start_is room body ended in
     let own : AreBytes made.0 =
     subst AreBytes made.2 (tail-bytes (take start mid) (drop (start + 14) mid) new class ended bytes) in
     let is : made.0 ≡ body_bytes fields values = written-is fields values made.0 own made.1 in
@@ -269,7 +274,8 @@ record-is e fields told end size h =
     λ i. structure_bytes e.class 0 (body_bytes (own i) (values_told (told_is i) (own i))) in (
       is,
       sym (end-length e end.frames end.bytes end.seek h.closing) ∙ sym (ap length is)
-          ∙ structure-size e.class 0 (body_bytes fields (values_told (told_of told end) fields)) ∙ ap (λ n. 14 + n) (sym h.sized),
+          ∙ structure-size e.class 0 (body_bytes fields (values_told (told_of told end) fields))
+          ∙ ap (λ n. 14 + n) (sym h.sized),
     )
 
 pub longer : {R : List ℕ → Type 0} (old new : List ℕ) → Appends R old new → length old ≤ length new
@@ -284,29 +290,31 @@ end-appended : (e : Entry) (fields : List Field) (told : EndFields) (end : EndOf
     → so_far.size + length old + (length mid - length old) + (14 + size) ≡ end.bytes → so_far.frames ≡ end.frames
     → way_back ((length mid - length old) + (14 + size)) table ≡ end.seek
     → Appends (λ bytes. IsShortEntry e → bytes ≡ last_entry used number e) old mid
-    → Appends (λ bytes. bytes ≡ structure_bytes e.class 0 (body_bytes fields (values_told (told_of told end) fields))) mid new
+    → Appends (λ bytes. bytes
+    ≡ structure_bytes e.class 0 (body_bytes fields (values_told (told_of told end) fields))) mid new
     → Appends (λ bytes. IsShortEntry e → (after : List Entry) → length after ≡ number
     → entry_of after e.class ≡ entry_of used e.class
     → bytes ≡ end_part (record so_far { size = so_far.size + length old; entries = after }) table e) old new
-end-appended e fields told end size so_far used number table old mid new h bytes_is frames_is seek_is first second = record {
-  items = first.items ++ second.items;
-  whole = second.whole ∙ ap (λ xs. xs ++ second.items) first.whole ∙ append_assoc old first.items second.items;
-  related = λ short after many same.
-      let made = record-is e fields told end size h in
-      let entry : first.items ≡ new_entry after e = first.related short
-      ∙ ap (λ o. last_by o number e) (sym same) ∙ sym (entry-as (entry_of after e.class) after number e many) in
-      let long : length mid - length old ≡ length (new_entry after e) =
-      apart (length old) (length mid) (length first.items) (ap length first.whole ∙ length-append old first.items)
-      ∙ ap length entry in
-      let behind : (length mid - length old) + (14 + size) ≡ length (new_entry after e) + length (end_bytes e 0 0 0) =
-      λ i. long i + sym made.1 i in
-      let bytes : end.bytes ≡ so_far.size + length old + (length (new_entry after e) + length (end_bytes e 0 0 0)) =
-      sym bytes_is ∙ omega (arith, long, made.1) in
-      let seek : end.seek ≡ way_back (length (new_entry after e) + length (end_bytes e 0 0 0)) table =
-      sym seek_is ∙ ap (λ n. way_back n table) behind in
-      (λ i. entry i ++ (second.related ∙ made.0) i)
-      ∙ (λ i. new_entry after e ++ end_bytes e (sym frames_is i) (bytes i) (seek i));
-}
+end-appended e fields told end size so_far used number table old mid new h bytes_is frames_is seek_is first second =
+    record {
+      items = first.items ++ second.items;
+      whole = second.whole ∙ ap (λ xs. xs ++ second.items) first.whole ∙ append_assoc old first.items second.items;
+      related = λ short after many same.
+          let made = record-is e fields told end size h in
+          let entry : first.items ≡ new_entry after e = first.related short
+          ∙ ap (λ o. last_by o number e) (sym same) ∙ sym (entry-as (entry_of after e.class) after number e many) in
+          let long : length mid - length old ≡ length (new_entry after e) =
+          apart (length old) (length mid) (length first.items) (ap length first.whole ∙ length-append old first.items)
+          ∙ ap length entry in
+          let behind : (length mid - length old) + (14 + size) ≡ length (new_entry after e) + length (end_bytes e 0 0 0) =
+          λ i. long i + sym made.1 i in
+          let bytes : end.bytes ≡ so_far.size + length old + (length (new_entry after e) + length (end_bytes e 0 0 0)) =
+          sym bytes_is ∙ omega (arith, long, made.1) in
+          let seek : end.seek ≡ way_back (length (new_entry after e) + length (end_bytes e 0 0 0)) table =
+          sym seek_is ∙ ap (λ n. way_back n table) behind in
+          (λ i. entry i ++ (second.related ∙ made.0) i)
+          ∙ (λ i. new_entry after e ++ end_bytes e (sym frames_is i) (bytes i) (seek i));
+    }
   where
     apart : (a b n : ℕ) → b ≡ a + n → b - a ≡ n
     apart a b n sum = omega arith
@@ -325,7 +333,8 @@ pub end-written : {A E : Type 0} (r : Result A E) (e : Entry) (fields : List Fie
 end-written (Ok x) e fields told end size so_far used number table old mid new h bytes frames seek first second =
     end-appended e fields told end size so_far used number table old mid new h bytes frames seek first second
 end-written (Err x) e fields told end size so_far used number table old mid new h bytes frames seek first second =
-    Appends-more (λ bytes. IsShortEntry e → bytes ≡ last_entry used number e) (λ xs. Unit {0}) (λ xs. Unit {0}) old mid new
+    Appends-more (λ bytes. IsShortEntry e → bytes ≡ last_entry used number e) (λ xs. Unit {0})
+    (λ xs. Unit {0}) old mid new
     first second (λ xs ys is t. tt)
 
 -- ---- FrTOC's entry and record
@@ -351,7 +360,8 @@ table-appended (Ok size) so_far e number layout fields old mid new readable layo
       table.1 ∙ ap length (table.0 ∙ record_is),
     ))
 table-appended (Err x) so_far e number layout fields old mid new readable layout_is many first second =
-    Appends-more (λ bytes. IsShortEntry e → bytes ≡ last_entry so_far.entries number e) (λ xs. Unit {0}) (λ xs. Unit {0})
+    Appends-more (λ bytes. IsShortEntry e → bytes ≡ last_entry so_far.entries number e) (λ xs. Unit {0})
+    (λ xs. Unit {0})
     old mid new first second (λ xs ys is t. tt)
 
 -- ---- the whole part
@@ -374,7 +384,8 @@ other-entry entries e class other = by (entry_of entries e.class)
     by (Some old) = refl
     by None =
         find-append (λ (x : Entry). class == x.class) entries (e ∷ [])
-        ∙ ap (λ b. option_or (entry_of entries class) (cond b (Some e) None)) (unlike class e.class (λ same. other (sym same)))
+        ∙ ap (λ b. option_or (entry_of entries class) (cond b (Some e) None))
+        (unlike class e.class (λ same. other (sym same)))
         ∙ or-none (entry_of entries class)
 
 -- what is known of the last part

@@ -53,13 +53,15 @@ pub pair-last : {A E : Type 0} (r : Result A E) (width : Width) (old mid new : L
     → Appends (IsNumber Little width 0) old mid → Appends (λ bytes. OnOk r (IsNumber Little width 0 bytes)) mid new
     → Appends (λ bytes. OnOk r (bytes ≡ pair_bytes width (0, 0))) old new
 pair-last (Ok x) width old mid new bytes first second =
-    Appends-more (λ xs. xs ≡ number_bytes width 0) (λ xs. xs ≡ number_bytes width 0) (λ xs. xs ≡ pair_bytes width (0, 0))
+    Appends-more (λ xs. xs ≡ number_bytes width 0) (λ xs. xs ≡ number_bytes width 0)
+    (λ xs. xs ≡ pair_bytes width (0, 0))
     old mid new (number-appended width 0 old mid (bytes-before mid new second bytes) first)
     (number-appended width 0 mid new bytes second) (λ xs ys is are i. is i ++ are i)
 pair-last (Err x) width old mid new bytes first second =
     Appends-more (IsNumber Little width 0) (λ xs. Unit {0}) (λ xs. Unit {0}) old mid new first second (λ xs ys is t. tt)
 
-pub text-last : {A E : Type 0} (r : Result A E) (old new : List ℕ) → Appends (λ bytes. OnOk r (IsTextOf [] bytes)) old new
+pub text-last : {A E : Type 0} (r : Result A E) (old new : List ℕ)
+    → Appends (λ bytes. OnOk r (IsTextOf [] bytes)) old new
     → Appends (λ bytes. OnOk r (bytes ≡ text_bytes [])) old new
 text-last (Ok x) old new part =
     Appends-as (IsTextOf []) (λ xs. xs ≡ text_bytes []) old new part (λ xs is. is (omega arith))
@@ -71,7 +73,8 @@ pub link-last : {A E : Type 0} (r : Result A E) (link : StructLink) (old new : L
 link-last (Ok x) link old new bytes part =
     let first : Appends (IsNumber Little Two link.class) old (old ++ part.related.front) =
     record { items = part.related.front; whole = refl; related = part.related.class } in
-    let whole : new ≡ (old ++ part.related.front) ++ part.related.back = part.whole ∙ ap (λ xs. old ++ xs) part.related.split
+    let whole : new ≡ (old ++ part.related.front) ++ part.related.back = part.whole
+    ∙ ap (λ xs. old ++ xs) part.related.split
     ∙ sym (append_assoc old part.related.front part.related.back) in
     let second : Appends (IsNumber Little Four link.instance) (old ++ part.related.front) new =
     record { items = part.related.back; whole = whole; related = part.related.instance } in
@@ -109,10 +112,12 @@ values-from told end numbers (f ∷ fs) fits =
     let at : length numbers + 0 ≡ length numbers = omega arith in
     let first = subst (λ k. FitsField told end k f) at (fits 0 f refl) in
     let here : v ≡ single_told f.form (number_in told end (length numbers)) =
-    ap (λ counts. told_at (told_of told end) (length numbers) (blank_by numbers f.form counts)) first.single ∙ first.value in
+    ap (λ counts. told_at (told_of told end) (length numbers) (blank_by numbers f.form counts)) first.single
+    ∙ first.value in
     let longer = length_push numbers (number_of v) in
     let rest = values-from told end (numbers ++ number_of v ∷ []) fs
-    (λ j g is. subst (λ k. FitsField told end k g) (further (length numbers) (length (numbers ++ number_of v ∷ [])) j longer)
+    (λ j g is. subst (λ k. FitsField told end k g)
+    (further (length numbers) (length (numbers ++ number_of v ∷ [])) j longer)
     (fits (suc j) g is)) in
     λ i. here i ∷ (rest ∙ ap (λ k. told_from told end k fs) longer) i
 

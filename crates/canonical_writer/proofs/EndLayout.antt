@@ -1,4 +1,5 @@
--- The layout that FrEndOfFile has to have: each field is a single item, and the three that tell something are wide enough.
+-- The layout that FrEndOfFile has to have: each field is a single item, and the three that tell something are wide
+-- enough.
 use Rattle.std.proofs.Common.{◌≡◌, ℕ, zero, suc, ◌^◌, ◌<◌, ◌≤◌, Bool, true, false, ◌&&◌, ◌==◌, cond, eqb}
 use Rattle.std.proofs.Common.{List, [], ◌∷◌, ◌++◌, Option, Some, None, refl, sym, ap, ◌∙◌, subst, arith}
 use Rattle.std.specs.Prelude.{codes, slice_get, option_and_then}
@@ -94,7 +95,8 @@ named-passes passes es name e f has at of = by (first_named 0 es name) refl has
     by None is has at = absurd (false≢true has)
     by (Some p) is has at =
         let same : p.1 ≡ e = same_Some p.1 e (sym (named-at es name p.0 p.1 is).0 ∙ at) in
-        let passing : option_map_or (λ (ty : ElementType). passes ty.base && has_no_dims ty.dims) (Some of.ty) false ≡ true =
+        let passing : option_map_or (λ (ty : ElementType). passes ty.base && has_no_dims ty.dims) (Some of.ty) false
+        ≡ true =
         ap (λ o. option_map_or (λ (ty : ElementType). passes ty.base && has_no_dims ty.dims) o false)
         (sym (ap (λ (e : Element). e.ty) same ∙ of.is)) ∙ has in
         (of.ty.base, first (passes of.ty.base) (has_no_dims of.ty.dims) passing, of.form)

@@ -1,6 +1,7 @@
 -- What is appended of numbers, texts and entries, byte for byte.
 use Rattle.std.proofs.Common.{◌≡◌, ℕ, suc, ◌+◌, ◌<◌, ◌≤◌, List, [], ◌∷◌, ◌++◌, length, take, drop, get_or, min}
-use Rattle.std.proofs.Common.{Result, Ok, Err, OnOk, refl, sym, ap, ◌∙◌, subst, arith, append_assoc, append-nil, add-one, drop-cons}
+use Rattle.std.proofs.Common.{Result, Ok, Err, OnOk, refl, sym, ap, ◌∙◌, subst, arith, append_assoc, append-nil}
+use Rattle.std.proofs.Common.{add-one, drop-cons}
 use Rattle.std.specs.Result.{OkIff, result_unwrap_or}
 use Rattle.std.proofs.lemmas.List.{drop_all}
 use Rattle.std.proofs.lemmas.List.Elements.{All-take, All-drop}
@@ -94,7 +95,8 @@ zeros-last : {A E : Type 0} (r : Result A E) (P Q R S : List ℕ → Type 0) (ol
     → ((xs ys zs : List ℕ) → P xs → Q ys → R zs → S (((xs ++ ys) ++ zs) ++ four_zeros))
     → Appends (λ bytes. OnOk r (S bytes)) old new
 zeros-last r P Q R S old a b c new bytes one two three last all =
-    by r (Appends-more Both R Three old b c (Appends-more P Q Both old a b one two (λ xs ys p q. (xs, ys, refl, p, q))) three
+    by r (Appends-more Both R Three old b c
+    (Appends-more P Q Both old a b one two (λ xs ys p q. (xs, ys, refl, p, q))) three
     (λ xs zs both r. (both.0, both.1, zs, ap (λ xs. xs ++ zs) both.2, both.3, both.4, r))) last
   where
     Both : List ℕ → Type 0

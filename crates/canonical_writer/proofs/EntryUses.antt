@@ -1,5 +1,6 @@
 -- The entries used, and the classes that were met, as entries come one after another.
-use Rattle.std.proofs.Common.{◌≡◌, ◌==◌, ℕ, zero, suc, Bool, cond, true, false, not, Option, Some, None, List, [], ◌∷◌, ◌++◌, set}
+use Rattle.std.proofs.Common.{◌≡◌, ◌==◌, ℕ, zero, suc, Bool, cond, true, false, not, Option, Some, None, List, [], ◌∷◌}
+use Rattle.std.proofs.Common.{◌++◌, set}
 use Rattle.std.proofs.Common.{IsSomeAnd, is_some, get_or, refl, sym, ap, ◌∙◌, subst, append-nil, eq-eqb}
 use Rattle.std.specs.Prelude.{slice_get}
 use Rattle.std.specs.Option.{option_map_or, option_or}
@@ -110,7 +111,8 @@ met-more met used held closing class e sound there are clear other is = by (clas
         → IsSomeAnd (entry_of (with_entry used (printed_entry e)) other)
         (λ old. IsSomeAnd (entry_of held other) (λ e. same_entries old e ≡ true))
     stood was =
-        let old = some-and (entry_of used other) (λ old. IsSomeAnd (entry_of held other) (λ e. same_entries old e ≡ true))
+        let old = some-and (entry_of used other)
+        (λ old. IsSomeAnd (entry_of held other) (λ e. same_entries old e ≡ true))
         (are other was) in
         grown old.0 old.1 old.2
 
@@ -165,13 +167,16 @@ pub used-new : (closing : Option Closing) (used after held : List Entry) (class 
     → new.met ≡ set old.met class true → after ≡ with_entry used (printed_entry e)
     → clashes (entries_used used closing) (printed_entry e) ≡ false → AreConsistent (entries_used after closing)
     → Uses closing used after held (printed_entry e) [] old new
-used-new closing used after held class e old new items sound there ready bytes items_are met after_is clear agree = record {
-  bytes_are = bytes ∙ ap (λ xs. old.bytes.items ++ xs) (items_are ∙ sym (append-nil (new_entry used (printed_entry e))));
-  entries = after_is;
-  no_clash = clear;
-  ready = record {
-    met_are = subst (λ m. AreMet m after held) (sym met) (subst (λ a. AreMet (set old.met class true) a held) (sym after_is)
-        (met-more old.met used held closing class e sound there ready.met_are clear));
-    agree = agree;
-  };
-}
+used-new closing used after held class e old new items sound there ready bytes items_are met after_is clear agree =
+    record {
+      bytes_are = bytes ∙ ap (λ xs. old.bytes.items ++ xs)
+          (items_are ∙ sym (append-nil (new_entry used (printed_entry e))));
+      entries = after_is;
+      no_clash = clear;
+      ready = record {
+        met_are = subst (λ m. AreMet m after held) (sym met)
+            (subst (λ a. AreMet (set old.met class true) a held) (sym after_is)
+            (met-more old.met used held closing class e sound there ready.met_are clear));
+        agree = agree;
+      };
+    }

@@ -1,5 +1,6 @@
 -- A part that is filled record by record.
-use Rattle.std.proofs.Common.{◌≡◌, ℕ, ◌+◌, ◌<◌, true, false, List, [], ◌∷◌, ◌++◌, length, take, drop, Option, Some, None}
+use Rattle.std.proofs.Common.{◌≡◌, ℕ, ◌+◌, ◌<◌, true, false, List, [], ◌∷◌, ◌++◌, length, take, drop, Option, Some}
+use Rattle.std.proofs.Common.{None}
 use Rattle.std.proofs.Common.{get_or, set, suc, refl, sym, ap, ◌∙◌, subst, arith, inl, inr, ◌⊎◌}
 use Rattle.std.specs.Prelude.{slice_get, nat_eq}
 use Rattle.std.specs.List.{IsDistinct}
@@ -33,7 +34,8 @@ use Rattle.canonical_writer.proofs.SegmentOrders.{breadth-within}
 -- ---- records that were used
 
 -- The part and the entries after these records, none of which clashes.
-pub record HasUsed (closing : Option Closing) (used after held : List Entry) (records : List Record) (part : FramePart) :
+pub record HasUsed (closing : Option Closing) (used after held : List Entry) (records : List Record)
+    (part : FramePart) :
     Type 0 where
   pub bytes : part.bytes.items ≡ bytes_of used records
   pub entries : after ≡ entries_after used records
@@ -131,7 +133,8 @@ filled-more at closing used mid after source k n old new was placed uses put lin
     let number = number_at source.order.now n k placed.number in
     let there = record-of source k number.0 in
     let within : n < length old.places.items =
-    subst (λ m. m < length old.places.items) number.1 (subst (λ count. get_or source.order.now k 0 < count) (sym was.size)
+    subst (λ m. m < length old.places.items) number.1
+    (subst (λ count. get_or source.order.now k 0 < count) (sym was.size)
     (breadth-within source.plans.now s source.order.now placed.source_is.can.breadth k 0 number.0)) in
     let here : place_of (record_places at (pieces_of used (records_of f))) k ≡ place_after at mid r old =
     place-behind used (records_of f) at k r there
@@ -194,7 +197,8 @@ pub filled-all : (at : ℕ) (closing : Option Closing) (used mid after : List En
     → IsFilled at closing used after source new
 filled-all at closing used mid after source count old new was all uses places =
     let rows = rows-used at closing used mid source count old was all in
-    let done = used-more closing used mid after source.dictionary.now (row_records (frame_of source)) (last_record source)
+    let done = used-more closing used mid after source.dictionary.now (row_records (frame_of source))
+    (last_record source)
     old new rows uses in
     record {
       bytes = done.bytes;

@@ -35,7 +35,8 @@ use Rattle.canonical_writer.proofs.RecordBytes.{source-plans, row-bytes, end-byt
 
 -- the entry of a record in the order is that of its class
 pub row-entry : (source : FrameSource) (links : List Link) (n k : ℕ) (r : Bodied) → IsPlacedAt source links n k
-    → slice_get source.segment.now.nodes n ≡ Some r → (read : IsReadRecord source.dictionary.now source.segment.now.order r)
+    → slice_get source.segment.now.nodes n ≡ Some r
+    → (read : IsReadRecord source.dictionary.now source.segment.now.order r)
     → (record_at source k).entry ≡ printed_entry read.entry
 row-entry source links n k r placed there read =
     let held = source.dictionary.now in let s = source.segment.now in let f : Frame = segment_frame held s in
@@ -84,7 +85,8 @@ row-uses closing used after source links n k node fields items old mid new place
     there).read in
     let e : Entry = read.entry in
     let entry_is = row-entry source links n k r placed there read in
-    let class_is : entry_of held node.class ≡ Some e = ap (λ (x : Node). entry_of held x.class) (sym found.2) ∙ read.there in
+    let class_is : entry_of held node.class ≡ Some e = ap (λ (x : Node). entry_of held x.class) (sym found.2)
+    ∙ read.there in
     let one = uses e class_is (placed.source_is.can.texts node.class e class_is) in
     let two = uses-more closing used after held (printed_entry e) items old mid new one more met in
     let items_are : items ≡ record_bytes (record_at source k) =
@@ -106,7 +108,8 @@ row-place closing used after source links n k at node old mid places placed is_n
     let read = (record-at held source.plans.now s n r (source-plans source placed.source_is) placed.source_is.can.bodies
     there).read in
     let e : Entry = read.entry in
-    let class_is : entry_of held node.class ≡ Some e = ap (λ (x : Node). entry_of held x.class) (sym found.2) ∙ read.there in
+    let class_is : entry_of held node.class ≡ Some e = ap (λ (x : Node). entry_of held x.class) (sym found.2)
+    ∙ read.there in
     let one = uses e class_is (placed.source_is.can.texts node.class e class_is) in
     let entry_is = row-entry source links n k r placed there read in
     let size : length mid.bytes.items ≡ length old.bytes.items + length (new_entry used (printed_entry e)) =
@@ -130,7 +133,8 @@ row-clash used source links n k class node placed is_node clash =
     let read = (record-at held source.plans.now s n r (source-plans source placed.source_is) placed.source_is.can.bodies
     there).read in
     let e : Entry = read.entry in
-    let class_is : entry_of held node.class ≡ Some e = ap (λ (x : Node). entry_of held x.class) (sym found.2) ∙ read.there in
+    let class_is : entry_of held node.class ≡ Some e = ap (λ (x : Node). entry_of held x.class) (sym found.2)
+    ∙ read.there in
     let entry_is = row-entry source links n k r placed there read in
     let told = clash e class_is in
     (told.0 ∙ ap (λ (e : Entry). e.class) (sym entry_is), ap (clashes used) entry_is ∙ told.1)
@@ -154,7 +158,8 @@ end-there source node is is_node =
     let found = map-some (λ (r : Bodied). r.node) s.end_record node is_node in
     (found.0, found.1, found.2, subst (λ o. IsSomeAnd o (ReadsBy plans s.order)) found.1 is.can.end)
 
-pub end-read : (source : FrameSource) (r : Bodied) → IsSource source → ReadsBy source.plans.now source.segment.now.order r
+pub end-read : (source : FrameSource) (r : Bodied) → IsSource source
+    → ReadsBy source.plans.now source.segment.now.order r
     → IsReadRecord source.dictionary.now source.segment.now.order r
 end-read source r is reads =
     read-record source.dictionary.now source.plans.now source.segment.now.order r (source-plans source is) reads
@@ -183,7 +188,8 @@ end-uses closing used after source node fields body items old mid new is is_node
     let r : Bodied = found.0 in
     let read = end-read source r is found.3 in
     let e : Entry = read.entry in
-    let class_is : entry_of held node.class ≡ Some e = ap (λ (x : Node). entry_of held x.class) (sym found.2) ∙ read.there in
+    let class_is : entry_of held node.class ≡ Some e = ap (λ (x : Node). entry_of held x.class) (sym found.2)
+    ∙ read.there in
     let two = uses-more closing used after held (printed_entry e) items old mid new
     (uses e class_is (is.can.texts node.class e class_is)) more met in
     let named = subst (λ o. IfSome o (λ (r : Bodied). r.node.class ≡ node.class)) (sym found.1)

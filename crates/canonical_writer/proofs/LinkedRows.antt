@@ -6,12 +6,12 @@ use Rattle.scalar_types.specs.declared.Order.{Order}
 use Rattle.type_text.specs.declared.types.Link.{Link}
 use Rattle.record_values.specs.declared.values.Value.{Value}
 use Rattle.record_values.specs.declared.values.Value.TheVariants as value
-use Rattle.record_values.specs.Links.{links_of, links_in, linked_value, linked}
+use Rattle.record_values.specs.Links.{links_of, links_in, linked_value, with_links}
 use Rattle.layout_plan.specs.declared.fields.Field.{Field}
 use Rattle.layout_plan.specs.Body.{AreFields}
 use Rattle.layout_plan.specs.Layout.{AreSums}
 use Rattle.layout_plan.specs.Links.{is_link_form}
-use Rattle.layout_plan.specs.Written.{cleared}
+use Rattle.layout_plan.specs.Written.{with_sums_cleared}
 use Rattle.layout_plan.proofs.LinkLemmas.{field-none}
 use Rattle.frame_content.specs.Labels.{unlinked, nullified}
 
@@ -47,7 +47,7 @@ value-told (value.Bytes xs) links size = (none links size, refl)
 
 -- So are values with other links.
 pub values-told : (vs : List Value) (links : List Link) → length links ≡ length (links_in vs)
-    → (links_in (linked vs links) ≡ links) × (map unlinked (linked vs links) ≡ map unlinked vs)
+    → (links_in (with_links vs links) ≡ links) × (map unlinked (with_links vs links) ≡ map unlinked vs)
 values-told [] links size = (none links size, refl)
 values-told (v ∷ vs) links size =
     let n : ℕ = length (links_of v) in
@@ -79,7 +79,7 @@ values-null (v ∷ vs) = λ i. value-null v i ∷ values-null vs i
 
 -- the links of a label's values are null
 pub label-null : (fields : List Field) (values : List Value)
-    → map unlinked (cleared fields (map unlinked values)) ≡ cleared fields (map unlinked values)
+    → map unlinked (with_sums_cleared fields (map unlinked values)) ≡ with_sums_cleared fields (map unlinked values)
 label-null [] values = values-null values
 label-null (f ∷ fs) [] = refl
 label-null (f ∷ fs) (v ∷ vs) = λ i. by f.is_sum i ∷ label-null fs vs i
@@ -102,14 +102,15 @@ links-many (value.Bytes xs) = refl
 -- and there are as many as in the body
 pub label-many : (order : Order) (numbers : List ℕ) (fields : List Field) (values : List Value) (bytes : List ℕ)
     → AreSums fields → AreFields order numbers fields values bytes
-    → length (links_in (cleared fields (map unlinked values))) ≡ length (links_in values)
+    → length (links_in (with_sums_cleared fields (map unlinked values))) ≡ length (links_in values)
 label-many order numbers [] [] bytes sums s = refl
 label-many order numbers [] (v ∷ vs) bytes sums s = absurd s
 label-many order numbers (f ∷ fs) [] bytes sums s = refl
 label-many order numbers (f ∷ fs) (v ∷ vs) bytes sums (front, rest, split, here, s) =
     omega (
       arith,
-      length-append (links_of (cond f.is_sum (value.Num 0) (unlinked v))) (links_in (cleared fs (map unlinked vs))),
+      length-append (links_of (cond f.is_sum (value.Num 0) (unlinked v)))
+          (links_in (with_sums_cleared fs (map unlinked vs))),
       length-append (links_of v) (links_in vs),
       by f.is_sum refl,
       label-many order numbers fs vs rest sums.1 s,

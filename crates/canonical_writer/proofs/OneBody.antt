@@ -8,12 +8,12 @@ use Rattle.scalar_types.specs.declared.Order.{Order}
 use Rattle.type_text.specs.declared.types.Link.{Link}
 use Rattle.record_values.specs.declared.values.Value.{Value}
 use Rattle.record_values.specs.Values.{number_of as value_number}
-use Rattle.record_values.specs.Links.{links_in, linked}
+use Rattle.record_values.specs.Links.{links_in, with_links}
 use Rattle.dictionary.specs.declared.entries.Entry.{Entry}
 use Rattle.layout_plan.specs.declared.fields.Field.{Field}
 use Rattle.layout_plan.specs.declared.faults.BodyFault.{BodyFault}
 use Rattle.layout_plan.specs.Reading.{body_in}
-use Rattle.layout_plan.specs.Written.{cleared}
+use Rattle.layout_plan.specs.Written.{with_sums_cleared}
 use Rattle.layout_plan.proofs.BodyLemmas.{body_in-again}
 use Rattle.link_graph.specs.declared.nodes.Node.{Node}
 use Rattle.link_graph.specs.Collected.{Bodied}
@@ -86,12 +86,12 @@ row-instance source links n k r placed there =
 row-values : (source : FrameSource) (links : List Link) (n k : ℕ) (r : Bodied) → IsPlacedAt source links n k
     → slice_get source.segment.now.nodes n ≡ Some r
     → (read : IsReadRecord source.dictionary.now source.segment.now.order r)
-    → (record_at source k).values ≡ linked (cleared read.fields (map unlinked read.values))
+    → (record_at source k).values ≡ with_links (with_sums_cleared read.fields (map unlinked read.values))
     (map (link_to source.segment.now.nodes links) (links_in read.values))
 row-values source links n k r placed there read =
     let held = source.dictionary.now in let s = source.segment.now in
     ap (new_values (frame_of source)) (row-shown held s source.order.now n k r read there placed.number)
-    ∙ ap (linked (cleared read.fields (map unlinked read.values)))
+    ∙ ap (with_links (with_sums_cleared read.fields (map unlinked read.values)))
     (links-there held source.plans.now s source.order.now links (links_in read.values)
     (source-segment source placed.source_is) placed.links_are)
 
@@ -107,7 +107,7 @@ row-links source links n k r placed there read =
     let many = label-many s.order (map value_number read.values) read.fields read.values read.body.front
     read.sound.sums read.body.spelled in
     ap links_in (row-values source links n k r placed there read)
-    ∙ (values-told (cleared read.fields (map unlinked read.values)) new
+    ∙ (values-told (with_sums_cleared read.fields (map unlinked read.values)) new
     (length-map (links_in read.values) (link_to s.nodes links) ∙ sym many)).0
 
 -- the links that are read of it by its plan
@@ -133,7 +133,7 @@ rows-alike : (first second : FrameSource) (links others : List Link) (n m k : �
 rows-alike first second links others n m k r s placed also there beside orders bodies instances entries = (
   λ lead.
       let values = row-values first links n k r placed there one
-      ∙ (λ i. linked (cleared (same.fields_are i) (map unlinked (same.values_are i))) (written lead i))
+      ∙ (λ i. with_links (with_sums_cleared (same.fields_are i) (map unlinked (same.values_are i))) (written lead i))
       ∙ sym (row-values second others m k s also beside two) in
       let instance = row-instance first links n k r placed there ∙ instances
       ∙ sym (row-instance second others m k s also beside) in
@@ -206,7 +206,7 @@ found-alike first second links others n m k node other test placed also is_node 
 end-label : (source : FrameSource) (r : Bodied) → source.segment.now.end_record ≡ Some r
     → (read : IsReadRecord source.dictionary.now source.segment.now.order r)
     → (frame_of source).end
-    ≡ record { entry = printed_entry read.entry; values = cleared read.fields (map unlinked read.values) }
+    ≡ record { entry = printed_entry read.entry; values = with_sums_cleared read.fields (map unlinked read.values) }
 end-label source r there read =
     ap (λ o. option_map_or (label_of source.segment.now.order source.dictionary.now) o no_label) there ∙ read.label_is
 
@@ -220,7 +220,7 @@ pub ends-alike : (first second : FrameSource) (r s : Bodied) → IsSource first 
 ends-alike first second r s is also there beside reads other orders bodies entries =
     let values : (last_record first).values ≡ (last_record second).values =
     ap (λ (l : Label). l.values) (end-label first r there one)
-    ∙ (λ i. cleared (same.fields_are i) (map unlinked (same.values_are i)))
+    ∙ (λ i. with_sums_cleared (same.fields_are i) (map unlinked (same.values_are i)))
     ∙ sym (ap (λ (l : Label). l.values) (end-label second s beside two)) in
     record {
       entry = entries;

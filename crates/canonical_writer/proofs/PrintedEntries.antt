@@ -5,7 +5,7 @@ use Rattle.std.specs.Option.{option_map_or}
 use Rattle.std.proofs.lemmas.Bool.Decides.{same_from_decides}
 use Rattle.std.proofs.lemmas.List.Elements.{All-head, All-tail, All-map, All-weaker}
 use Rattle.type_text.specs.declared.types.ElementType.{ElementType}
-use Rattle.type_text.specs.TypeText.{printed, type_of}
+use Rattle.type_text.specs.TypeText.{printed_type, type_of}
 use Rattle.type_text.proofs.PrintedLemmas.{printed-read}
 use Rattle.type_text.proofs.SpellingLemmas.{type_of-grammar}
 use Rattle.dictionary.specs.declared.entries.Element.{Element}
@@ -18,7 +18,8 @@ use Rattle.canonical_writer.specs.Parts.{IsShort, IsShortElement, IsShortEntry}
 -- ---- one element
 
 -- the printed text reads as the type
-text-read : (ty : Option ElementType) (text : List ℕ) → ty ≡ type_of text → type_of (option_map_or printed ty text) ≡ ty
+text-read : (ty : Option ElementType) (text : List ℕ) → ty ≡ type_of text
+    → type_of (option_map_or printed_type ty text) ≡ ty
 text-read None text read = sym read
 text-read (Some ty) text read = printed-read ty (text, sym read)
 
@@ -26,19 +27,19 @@ element-read : (e : Element) → IsRead e → IsRead (printed_element e)
 element-read e read = sym (text-read e.ty e.text read)
 
 meaning-printed : (ty : Option ElementType) (text : List ℕ)
-    → meaning_by ty (option_map_or printed ty text) ≡ meaning_by ty text
+    → meaning_by ty (option_map_or printed_type ty text) ≡ meaning_by ty text
 meaning-printed None text = refl
 meaning-printed (Some ty) text = refl
 
 column-printed : (e : Element) → IsRead e → column_of (printed_element e) ≡ column_of e
 column-printed e read =
-    let text = option_map_or printed e.ty e.text in
+    let text = option_map_or printed_type e.ty e.text in
     (λ i. (e.name, meaning_by (text-read e.ty e.text read i) text))
     ∙ (λ i. (e.name, meaning-printed e.ty e.text i))
     ∙ (λ i. (e.name, meaning_by (read i) e.text))
 
 text-short : (ty : Option ElementType) (text : List ℕ) → ty ≡ type_of text → IsShort text
-    → IsShort (option_map_or printed ty text)
+    → IsShort (option_map_or printed_type ty text)
 text-short None text read short = short
 text-short (Some ty) text read short =
     let is = (type_of-grammar text ty).0 (sym read) in

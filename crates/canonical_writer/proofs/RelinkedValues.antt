@@ -6,25 +6,25 @@ use Rattle.scalar_types.specs.declared.Order.{Order}
 use Rattle.type_text.specs.declared.types.Link.{Link}
 use Rattle.record_values.specs.declared.values.Value.{Value}
 use Rattle.record_values.specs.declared.values.Value.TheVariants as value
-use Rattle.record_values.specs.Links.{links_of, links_in, linked_value, linked}
+use Rattle.record_values.specs.Links.{links_of, links_in, linked_value, with_links}
 use Rattle.layout_plan.specs.declared.fields.Field.{Field}
 use Rattle.layout_plan.specs.Body.{AreFields}
 use Rattle.layout_plan.specs.Layout.{AreSums}
 use Rattle.layout_plan.specs.Links.{is_link_form}
-use Rattle.layout_plan.specs.Written.{cleared}
+use Rattle.layout_plan.specs.Written.{with_sums_cleared}
 use Rattle.layout_plan.proofs.LinkLemmas.{field-none}
 use Rattle.frame_content.specs.Labels.{unlinked, nullified}
 
 -- ---- no more links where the check sum is cleared
 
 pub cleared-few : (fields : List Field) (values : List Value)
-    → length (links_in (cleared fields values)) ≤ length (links_in values)
+    → length (links_in (with_sums_cleared fields values)) ≤ length (links_in values)
 cleared-few [] values = omega arith
 cleared-few (f ∷ fs) [] = omega arith
 cleared-few (f ∷ fs) (v ∷ vs) =
     omega (
       arith,
-      length-append (links_of (cond f.is_sum (value.Num 0) v)) (links_in (cleared fs vs)),
+      length-append (links_of (cond f.is_sum (value.Num 0) v)) (links_in (with_sums_cleared fs vs)),
       length-append (links_of v) (links_in vs),
       by f.is_sum,
       cleared-few fs vs,
@@ -52,13 +52,13 @@ enough v vs links few =
 
 -- a value with links is the one with null links, and these in their place
 value-again : (v : Value) (vs ws : List Value) (links : List Link) → length (links_of v) ≤ length links
-    → linked ws (drop (length (links_of v)) links) ≡ linked vs (drop (length (links_of v)) links)
-    → linked (unlinked v ∷ ws) links ≡ linked (v ∷ vs) links
+    → with_links ws (drop (length (links_of v)) links) ≡ with_links vs (drop (length (links_of v)) links)
+    → with_links (unlinked v ∷ ws) links ≡ with_links (v ∷ vs) links
 value-again (value.Link old) vs ws [] few rest = absurd (omega arith)
 value-again (value.Link old) vs ws (link ∷ links) few rest = ap (λ vs. value.Link link ∷ vs) rest
 value-again (value.Links old) vs ws links few rest =
     let count = length-map old nullified in
-    (λ i. value.Links (take (count i) links) ∷ linked ws (drop (count i) links))
+    (λ i. value.Links (take (count i) links) ∷ with_links ws (drop (count i) links))
     ∙ ap (λ vs. value.Links (take (length old) links) ∷ vs) rest
 value-again (value.Num n) vs ws links few rest = ap (λ vs. value.Num n ∷ vs) rest
 value-again (value.Pair a b) vs ws links few rest = ap (λ vs. value.Pair a b ∷ vs) rest
@@ -69,8 +69,9 @@ value-again (value.Texts xs) vs ws links few rest = ap (λ vs. value.Texts xs �
 value-again (value.Bytes xs) vs ws links few rest = ap (λ vs. value.Bytes xs ∷ vs) rest
 
 pub linked-again : (fields : List Field) (values : List Value) (links : List Link)
-    → length (links_in (cleared fields values)) ≤ length links
-    → linked (cleared fields (map unlinked values)) links ≡ linked (cleared fields values) links
+    → length (links_in (with_sums_cleared fields values)) ≤ length links
+    → with_links (with_sums_cleared fields (map unlinked values)) links
+    ≡ with_links (with_sums_cleared fields values) links
 linked-again [] [] links few = refl
 linked-again [] (v ∷ vs) links few =
     let all = enough v vs links few in
@@ -80,22 +81,23 @@ linked-again (f ∷ fs) [] links few = refl
 linked-again (f ∷ fs) (v ∷ vs) links few =
     by f.is_sum few (λ ls enough. linked-again fs vs ls enough)
   where
-    by : (b : Bool) → length (links_in (cond b (value.Num 0) v ∷ cleared fs vs)) ≤ length links
-        → ((ls : List Link) → length (links_in (cleared fs vs)) ≤ length ls
-        → linked (cleared fs (map unlinked vs)) ls ≡ linked (cleared fs vs) ls)
-        → linked (cond b (value.Num 0) (unlinked v) ∷ cleared fs (map unlinked vs)) links
-        ≡ linked (cond b (value.Num 0) v ∷ cleared fs vs) links
+    by : (b : Bool) → length (links_in (cond b (value.Num 0) v ∷ with_sums_cleared fs vs)) ≤ length links
+        → ((ls : List Link) → length (links_in (with_sums_cleared fs vs)) ≤ length ls
+        → with_links (with_sums_cleared fs (map unlinked vs)) ls ≡ with_links (with_sums_cleared fs vs) ls)
+        → with_links (cond b (value.Num 0) (unlinked v) ∷ with_sums_cleared fs (map unlinked vs)) links
+        ≡ with_links (cond b (value.Num 0) v ∷ with_sums_cleared fs vs) links
     by true few rest = ap (λ vs. value.Num 0 ∷ vs) (rest links few)
     by false few rest =
-        let all = enough v (cleared fs vs) links few in
-        value-again v (cleared fs vs) (cleared fs (map unlinked vs)) links all.first
+        let all = enough v (with_sums_cleared fs vs) links few in
+        value-again v (with_sums_cleared fs vs) (with_sums_cleared fs (map unlinked vs)) links all.first
         (rest (drop (length (links_of v)) links) all.others)
 
 -- ---- null links in place of all
 
 pub linked-null : (order : Order) (numbers : List ℕ) (fields : List Field) (values : List Value) (bytes : List ℕ)
     → AreSums fields → AreFields order numbers fields values bytes
-    → linked (cleared fields values) (map nullified (links_in values)) ≡ cleared fields (map unlinked values)
+    → with_links (with_sums_cleared fields values) (map nullified (links_in values))
+    ≡ with_sums_cleared fields (map unlinked values)
 linked-null order numbers [] [] bytes sums s = refl
 linked-null order numbers [] (v ∷ vs) bytes sums s = absurd s
 linked-null order numbers (f ∷ fs) [] bytes sums s = refl
@@ -126,11 +128,12 @@ linked-null order numbers (f ∷ fs) (v ∷ vs) bytes sums (front, rest, split, 
         field-none order numbers f.form f.counts v front (ap is_link_form (sums.0 sum).0) here
 
     by : (b : Bool) → f.is_sum ≡ b
-        → linked (cleared fs vs) (map nullified (links_in vs)) ≡ cleared fs (map unlinked vs)
-        → linked (cond b (value.Num 0) v ∷ cleared fs vs) all
-        ≡ cond b (value.Num 0) (unlinked v) ∷ cleared fs (map unlinked vs)
+        → with_links (with_sums_cleared fs vs) (map nullified (links_in vs)) ≡ with_sums_cleared fs (map unlinked vs)
+        → with_links (cond b (value.Num 0) v ∷ with_sums_cleared fs vs) all
+        ≡ cond b (value.Num 0) (unlinked v) ∷ with_sums_cleared fs (map unlinked vs)
     by true sum more =
-        ap (λ ls. value.Num 0 ∷ linked (cleared fs vs) (map nullified (ls ++ links_in vs))) (none sum)
+        ap (λ ls. value.Num 0 ∷ with_links (with_sums_cleared fs vs) (map nullified (ls ++ links_in vs))) (none sum)
         ∙ ap (λ vs. value.Num 0 ∷ vs) more
     by false sum more =
-        (λ i. linked_value v (first i) ∷ linked (cleared fs vs) (others i)) ∙ ap (λ vs. unlinked v ∷ vs) more
+        (λ i. linked_value v (first i) ∷ with_links (with_sums_cleared fs vs) (others i))
+        ∙ ap (λ vs. unlinked v ∷ vs) more

@@ -6,7 +6,7 @@ use Rattle.std.proofs.lemmas.List.{length-map}
 use Rattle.std.proofs.lemmas.List.Elements.{All-map}
 use Rattle.std.proofs.lemmas.Option.{slice_get-get_or}
 use Rattle.record_values.specs.Values.{number_of as value_number}
-use Rattle.record_values.specs.Links.{links_in, linked}
+use Rattle.record_values.specs.Links.{links_in, with_links}
 use Rattle.rooted_graph.specs.BreadthOrder.{number_of}
 use Rattle.rooted_graph.specs.InOrder.{renumbered}
 use Rattle.rooted_graph.proofs.Places.{number_at}
@@ -97,7 +97,7 @@ record-same f g k same =
     λ i. record {
       entry = (get_or (same i) k no_row).label.entry;
       instance = count_by (is_of_class (class_of (get_or (same i) k no_row))) (take k (same i));
-      values = linked (get_or (same i) k no_row).label.values (links i);
+      values = with_links (get_or (same i) k no_row).label.values (links i);
     }
 
 pub alike-records : (first second : FrameSource) (k : ℕ) → AreWrittenAlike (frame_of first) (frame_of second)

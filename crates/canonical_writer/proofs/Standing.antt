@@ -1,5 +1,6 @@
 -- The entries that stand: how many, and one more.
-use Rattle.std.proofs.Common.{◌≡◌, ℕ, ◌+◌, ◌≤◌, ◌<◌, Bool, true, false, ◌||◌, cond, eqb, List, [], ◌∷◌, ◌++◌, length, map, min}
+use Rattle.std.proofs.Common.{◌≡◌, ℕ, ◌+◌, ◌≤◌, ◌<◌, Bool, true, false, ◌||◌, cond, eqb, List, [], ◌∷◌, ◌++◌, length}
+use Rattle.std.proofs.Common.{map, min}
 use Rattle.std.proofs.Common.{Option, Some, None, Result, Ok, Err, OnOk, IfOk, IfErr, refl, sym, ap, ◌∙◌, subst, arith}
 use Rattle.std.specs.Prelude.{is_some, IsSome, nat_eq}
 use Rattle.std.specs.Cmp.{nat_eq_equiv}
@@ -59,7 +60,10 @@ pub standing-none : AreStanding [] 0
 unfolding IsDistinct
 standing-none = record {
   counted = refl;
-  sound = record { entries = λ class e is. absurd (none-some e is); names = λ name class is. absurd (none-some class is) };
+  sound = record {
+    entries = λ class e is. absurd (none-some e is);
+    names = λ name class is. absurd (none-some class is);
+  };
   distinct = tt;
 }
 
@@ -107,7 +111,8 @@ pub record IsAdded (old new : List Entry) (count : ℕ) (e : Entry) : Type 0 whe
 
 add-usable : {A : Type 0} (old new : List Entry) (count : ℕ) (e : Entry) (x : A) → AreStanding old count → IsUsable e
     → entry_of old e.class ≡ None
-    → IfErr (step old e) (λ fault. ◌≡◌ {A = Result A AddFault} (Ok x) (Err fault)) → IfOk (step old e) (λ next. new ≡ next)
+    → IfErr (step old e) (λ fault. ◌≡◌ {A = Result A AddFault} (Ok x) (Err fault))
+    → IfOk (step old e) (λ next. new ≡ next)
     → (new ≡ with_entry old e) × (clashes old e ≡ false)
     × ((more : ℕ) → more ≡ min (count + 1) 4294967295 → AreStanding new more)
 add-usable {A} old new count e x standing usable none refused accepted =
@@ -128,7 +133,13 @@ add-usable {A} old new count e x standing usable none refused accepted =
       clashes-by_name old e none ∙ ap is_some is,
       λ more sum. subst (λ es. AreStanding es more) (sym accepted)
           (standing-more old e count more standing
-          (record { low = usable.low; high = usable.high; short = usable.few; class = none; name = is }) usable.read sum),
+          (record {
+            low = usable.low;
+            high = usable.high;
+            short = usable.few;
+            class = none;
+            name = is;
+          }) usable.read sum),
     )
 
 pub is-added : {A : Type 0} (inside old new : List Entry) (count class : ℕ) (e own : Entry) (x : A) → inside ≡ old
@@ -137,9 +148,11 @@ pub is-added : {A : Type 0} (inside old new : List Entry) (count class : ℕ) (e
     → IfOk (step inside own) (λ next. new ≡ next) → IsAdded old new count e
 is-added {A} inside old new count class e own x same standing usable class_is none printed refused accepted =
     let p = printed_entry e in
-    let added = add-usable old new count p x (subst (λ es. AreStanding es count) same standing) (usable-printed e usable)
+    let added = add-usable old new count p x (subst (λ es. AreStanding es count) same standing)
+    (usable-printed e usable)
     (ap (entry_of old) class_is ∙ none)
-    (subst (λ r. IfErr r (λ fault. ◌≡◌ {A = Result A AddFault} (Ok x) (Err fault))) (λ i. step (same i) (printed i)) refused)
+    (subst (λ r. IfErr r (λ fault. ◌≡◌ {A = Result A AddFault} (Ok x) (Err fault)))
+    (λ i. step (same i) (printed i)) refused)
     (subst (λ r. IfOk r (λ next. new ≡ next)) (λ i. step (same i) (printed i)) accepted) in
     record { used = added.0; no_clash = added.1; standing = added.2 }
 

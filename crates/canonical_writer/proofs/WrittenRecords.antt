@@ -13,14 +13,14 @@ use Rattle.frame_head.specs.Structure.{common_bytes}
 use Rattle.type_text.specs.declared.types.Link.{Link}
 use Rattle.record_values.specs.declared.values.Value.{Value}
 use Rattle.record_values.specs.Values.{number_of as value_number}
-use Rattle.record_values.specs.Links.{links_in, linked}
+use Rattle.record_values.specs.Links.{links_in, with_links}
 use Rattle.dictionary.specs.declared.entries.Entry.{Entry}
 use Rattle.layout_plan.specs.declared.fields.Field.{Field}
 use Rattle.layout_plan.specs.Body.{IsBody}
 use Rattle.layout_plan.specs.Reading.{body_in}
 use Rattle.layout_plan.specs.Layout.{layout_of, AreSound}
 use Rattle.layout_plan.specs.Plans.{plan_of}
-use Rattle.layout_plan.specs.Written.{cleared}
+use Rattle.layout_plan.specs.Written.{with_sums_cleared}
 use Rattle.layout_plan.proofs.BodyLemmas.{body_in-again}
 use Rattle.rooted_graph.specs.BreadthOrder.{number_of}
 use Rattle.rooted_graph.specs.InOrder.{renumbered}
@@ -66,29 +66,29 @@ written-by : (held : List Entry) (order : Order) (r : Bodied) (read : IsReadReco
     (class instance : ℕ) (fields : List Field) (bytes : List ℕ) → fields ≡ read.fields → AreBytes bytes
     → IsRecordOf order fields links class instance r.body bytes
     → bytes ≡ structure_bytes class instance
-    (body_bytes read.fields (linked (cleared read.fields read.values) (map links (links_in read.values))))
+    (body_bytes read.fields (with_links (with_sums_cleared read.fields read.values) (map links (links_in read.values))))
 written-by held order r read links class instance fields bytes same all is =
     let written = subst (λ fields. IsRecordOf order fields links class instance r.body bytes) same is in
-    let values : List Value = linked (cleared read.fields read.values)
+    let values : List Value = with_links (with_sums_cleared read.fields read.values)
     (map links (links_by order read.fields r.body)) in
     written.is
     ∙ ap (structure_bytes class instance) (written-is read.fields values written.again
     (body-bytes class instance written.again bytes all written.is)
     (written.rewritten read.values read.tail read.body)
-    ∙ ap (λ ls. body_bytes read.fields (linked (cleared read.fields read.values) (map links ls)))
+    ∙ ap (λ ls. body_bytes read.fields (with_links (with_sums_cleared read.fields read.values) (map links ls)))
     (links-read order read.fields read.values read.tail r.body read.sound.sound read.body))
 
 -- and read as these values again
 read-by : (held : List Entry) (order : Order) (r : Bodied) (read : IsReadRecord held order r) (links : Link → Link)
     (class instance : ℕ) (fields : List Field) (bytes : List ℕ) → fields ≡ read.fields → AreBytes bytes
     → IsRecordOf order fields links class instance r.body bytes
-    → ReadAgain read.fields (linked (cleared read.fields read.values) (map links (links_in read.values)))
+    → ReadAgain read.fields (with_links (with_sums_cleared read.fields read.values) (map links (links_in read.values)))
 read-by held order r read links class instance fields bytes same all is =
     let written = subst (λ fields. IsRecordOf order fields links class instance r.body bytes) same is in
-    let values : List Value = linked (cleared read.fields read.values)
+    let values : List Value = with_links (with_sums_cleared read.fields read.values)
     (map links (links_by order read.fields r.body)) in
     let again = written.rewritten read.values read.tail read.body in
-    subst (λ ls. ReadAgain read.fields (linked (cleared read.fields read.values) (map links ls)))
+    subst (λ ls. ReadAgain read.fields (with_links (with_sums_cleared read.fields read.values) (map links ls)))
     (links-read order read.fields read.values read.tail r.body read.sound.sound read.body)
     (subst (λ bytes. body_in Little read.fields bytes ≡ Ok (values, []))
     (written-is read.fields values written.again (body-bytes class instance written.again bytes all written.is) again)
@@ -125,7 +125,7 @@ pub row-shown : (held : List Entry) (s : Collected) (numbers : List ℕ) (n k : 
     → row_at (frame_in_order held s numbers) k ≡ record {
       label = record {
         entry = printed_entry read.entry;
-        values = cleared read.fields (map unlinked read.values);
+        values = with_sums_cleared read.fields (map unlinked read.values);
       };
       links = map (renumbered numbers) (map (target_of s.nodes) (links_in read.values));
     }
@@ -141,15 +141,15 @@ row-shown held s numbers n k r read there number =
 values-written : (held : List Entry) (plans : Layouts) (s : Collected) (numbers : List ℕ) (links : List Link)
     (fields : List Field) (values : List Value) → IsReadSegment held plans s numbers
     → AreNewLinks (classes_of s.nodes) numbers links
-    → linked (cleared fields values) (map (link_to s.nodes links) (links_in values))
-    ≡ linked (cleared fields (map unlinked values)) (map (new_link (frame_in_order held s numbers))
+    → with_links (with_sums_cleared fields values) (map (link_to s.nodes links) (links_in values))
+    ≡ with_links (with_sums_cleared fields (map unlinked values)) (map (new_link (frame_in_order held s numbers))
     (map (renumbered numbers) (map (target_of s.nodes) (links_in values))))
 values-written held plans s numbers links fields values is are =
     let new : List Link = map (link_to s.nodes links) (links_in values) in
-    let few : length (links_in (cleared fields values)) ≤ length new =
+    let few : length (links_in (with_sums_cleared fields values)) ≤ length new =
     omega (arith, cleared-few fields values, length-map (links_in values) (link_to s.nodes links)) in
     sym (linked-again fields values new few)
-    ∙ ap (linked (cleared fields (map unlinked values)))
+    ∙ ap (with_links (with_sums_cleared fields (map unlinked values)))
     (sym (links-there held plans s numbers links (links_in values) is are))
 
 -- the fields of a class are those that its plan has
@@ -182,7 +182,7 @@ row-written held plans s numbers links n k r fields bytes are can links_are numb
     ∙ (λ i. structure_bytes class (instance i) (body_bytes read.fields
     (values-written held plans s numbers links read.fields read.values is links_are i)))
     ∙ record-by read.entry class (instance_at f k) read.fields
-    (linked (cleared read.fields (map unlinked read.values)) (map (new_link f)
+    (with_links (with_sums_cleared read.fields (map unlinked read.values)) (map (new_link f)
     (map (renumbered numbers) (map (target_of s.nodes) (links_in read.values))))) read.layout
     (entry-class held class read.entry read.there)
     ∙ ap (λ row. record_bytes (row_record f (k, row))) (sym (row-shown held s numbers n k r read there number))
@@ -204,7 +204,7 @@ row-reads held plans s numbers links n k r fields bytes are can links_are number
     map (new_link f) (map (renumbered numbers) (map (target_of s.nodes) (links_in read.values))) in
     subst (λ (row : Row). ReadAgain (entry_fields row.label.entry) (new_values f row))
     (sym (row-shown held s numbers n k r read there number))
-    (subst (λ fs. ReadAgain fs (linked (cleared read.fields (map unlinked read.values)) new))
+    (subst (λ fs. ReadAgain fs (with_links (with_sums_cleared read.fields (map unlinked read.values)) new))
     (fields-printed read.entry read.fields read.layout)
     (subst (ReadAgain read.fields) (values-written held plans s numbers links read.fields read.values is links_are)
     (read-by held s.order r read (link_to s.nodes links) r.node.class (link_of links n).instance fields bytes
@@ -223,14 +223,14 @@ end-written held plans s numbers r fields bytes are can there plan all written =
     let read = read-record held plans s.order r are reads in
     let class = r.node.class in
     let label : (frame_of held s).end
-    ≡ record { entry = printed_entry read.entry; values = cleared read.fields (map unlinked read.values) } =
+    ≡ record { entry = printed_entry read.entry; values = with_sums_cleared read.fields (map unlinked read.values) } =
     ap (λ o. option_map_or (label_of s.order held) o no_label) there ∙ read.label_is in
     written-by held s.order r read nullified class 0 fields bytes
     (fields-same held plans s.order r fields read are plan) all written
     ∙ ap (λ values. structure_bytes class 0 (body_bytes read.fields values))
     (linked-null s.order (map value_number read.values) read.fields read.values read.body.front read.sound.sums
     read.body.spelled)
-    ∙ record-by read.entry class 0 read.fields (cleared read.fields (map unlinked read.values)) read.layout
+    ∙ record-by read.entry class 0 read.fields (with_sums_cleared read.fields (map unlinked read.values)) read.layout
     (entry-class held class read.entry read.there)
     ∙ ap (λ (l : Label). record_bytes (record { entry = l.entry; instance = 0; values = l.values })) (sym label)
 
@@ -244,10 +244,10 @@ end-reads held plans s numbers r fields bytes are can there plan all written =
     let reads : ReadsBy plans s.order r = subst (λ o. IsSomeAnd o (ReadsBy plans s.order)) there can.end in
     let read = read-record held plans s.order r are reads in
     let label : (frame_of held s).end
-    ≡ record { entry = printed_entry read.entry; values = cleared read.fields (map unlinked read.values) } =
+    ≡ record { entry = printed_entry read.entry; values = with_sums_cleared read.fields (map unlinked read.values) } =
     ap (λ o. option_map_or (label_of s.order held) o no_label) there ∙ read.label_is in
     subst (λ (l : Label). ReadAgain (entry_fields l.entry) l.values) (sym label)
-    (subst (λ fs. ReadAgain fs (cleared read.fields (map unlinked read.values)))
+    (subst (λ fs. ReadAgain fs (with_sums_cleared read.fields (map unlinked read.values)))
     (fields-printed read.entry read.fields read.layout)
     (subst (ReadAgain read.fields) (linked-null s.order (map value_number read.values) read.fields read.values
     read.body.front read.sound.sums read.body.spelled)

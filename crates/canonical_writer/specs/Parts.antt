@@ -1,5 +1,6 @@
 -- What is appended while a frame is written.
-use Rattle.std.specs.Prelude.{◌≡◌, ◌≢◌, ℕ, ◌≤◌, Bool, true, List, [], length, map, flat_map, All, Option, Some, None, IfSome, IsSomeAnd}
+use Rattle.std.specs.Prelude.{◌≡◌, ◌≢◌, ℕ, ◌≤◌, Bool, true, List, [], length, map, flat_map, All, Option, Some, None}
+use Rattle.std.specs.Prelude.{IfSome, IsSomeAnd}
 use Rattle.std.specs.Prelude.{slice_get, nat_eq}
 use Rattle.std.specs.List.{IsDistinct}
 use Rattle.std.specs.Option.{option_map}
@@ -47,8 +48,8 @@ pub record IsRecordOf (order : Order) (fields : List Field) (links : Link → Li
   pub is : bytes ≡ structure_bytes class instance again
   pub rewritten : IsRewritten order fields body (map links (links_by order fields body)) again
 
--- A frame that can be written: the plans and layouts are those of the entries, whose texts are short; every record reads,
--- the end record too; and the numbers are its breadth-first order.
+-- A frame that can be written: the plans and layouts are those of the entries, whose texts are short; every record
+-- reads, the end record too; and the numbers are its breadth-first order.
 pub record CanBeWritten (held : List Entry) (plans : Layouts) (s : Collected) (numbers : List ℕ) : Type 0 where
   pub bodies : All (ReadsBy plans s.order) s.nodes
   pub end : IsSomeAnd s.end_record (ReadsBy plans s.order)
@@ -93,8 +94,8 @@ last_by (Some old) number e = []
 abbrev pub last_entry : List Entry → ℕ → Entry → List ℕ
 last_entry used number e = last_by (entry_of used e.class) number e
 
--- A closing of such entries: FrEndOfFile's has the layout that it has to have, and FrTOC's, of another class, is fit for
--- a contents table.
+-- A closing of such entries: FrEndOfFile's has the layout that it has to have, and FrTOC's, of another class, is fit
+-- for a contents table.
 pub record IsUsableTable (end e : Entry) : Type 0 where
   pub usable : IsUsable e
   pub fit : is_fit e ≡ true

@@ -8,7 +8,7 @@ use Rattle.file_grammar.specs.MayStand.{frames_limit}
 use Rattle.frame_content.specs.Frames.{Frame}
 use Rattle.canonical_file.specs.declared.closing.Closing.{Closing}
 use Rattle.canonical_file.specs.Splices.{clash_of}
-use Rattle.canonical_file.specs.Written.{Written, begun, after_frame, closing_part}
+use Rattle.canonical_file.specs.Written.{Written, header_alone, after_frame, closing_part}
 use Rattle.canonical_writer.specs.declared.errors.WriteError.{WriteError}
 use Rattle.canonical_writer.specs.declared.errors.WriteError.TheVariants as error
 use Rattle.canonical_writer.specs.declared.writer.Summary.{Summary}
@@ -27,7 +27,7 @@ none_met = replicate 256 false
 
 -- a writer that has written the header
 abbrev pub fresh : ℕ → Writer
-fresh slot = record { slot = slot; written = begun; closing = None; met = none_met; error = None }
+fresh slot = record { slot = slot; written = header_alone; closing = None; met = none_met; error = None }
 
 -- nothing but the counts changed
 abbrev pub Stays : Outside → Outside → Type 0

@@ -1,4 +1,5 @@
-//! The closing part of a file: FrTOC's entry and record, then FrEndOfFile's, each entry where it does not stand already.
+//! The closing part of a file: FrTOC's entry and record, then FrEndOfFile's, each entry where it does not stand
+//! already.
 
 ghost use Rattle.std.specs.Prelude.{◌≡◌, ◌+◌, ◌^◌, ◌<◌, ◌≤◌, ℕ, List, [], IfOk, OnOk, length, true, codes};
 ghost use Rattle.dictionary.specs.declared.entries.Entry.{Entry};

@@ -17,7 +17,7 @@ use Rattle.frame_reader.specs.Given.{Frames, HasGiven}
 use Rattle.frame_reader.proofs.Ended.{all-given}
 use Rattle.content_compare.specs.declared.answers.CompareError.{CompareError}
 use Rattle.content_compare.specs.declared.answers.CompareError.TheVariants as error
-use Rattle.content_compare.specs.Answers.{unread, IsOfTwo}
+use Rattle.content_compare.specs.Answers.{error_of_read, IsOfTwo}
 use Rattle.content_compare.specs.Sides.{IsSide, OnlyDraws, EndsAs, Stops}
 use Rattle.content_compare.proofs.Draws.{draws-only, only-more, file-stays}
 
@@ -32,14 +32,14 @@ begun-side file r given still = record {
 
 -- the first has a wrong header
 pub header-stops : (file second : List ℕ) (e : ReadError)
-    → ((fault : Fault) → e ≡ read.Fault fault → IsHeaderFault file fault) → Stops file second (unread 0 e)
+    → ((fault : Fault) → e ≡ read.Fault fault → IsHeaderFault file fault) → Stops file second (error_of_read 0 e)
 header-stops file second (read.Fault fault) is = ([], inl (refl, is fault refl))
 header-stops file second read.Device is = tt
 header-stops file second read.NoMemory is = tt
 
 -- or the second, and the first is well-formed
 pub header-stops_second : (file second : List ℕ) (r : Frames) (e : ReadError) → EndsAs 0 file [] r (Ok tt)
-    → ((fault : Fault) → e ≡ read.Fault fault → IsHeaderFault second fault) → Stops file second (unread 1 e)
+    → ((fault : Fault) → e ≡ read.Fault fault → IsHeaderFault second fault) → Stops file second (error_of_read 1 e)
 header-stops_second file second r (read.Fault fault) ends is = (
   refl,
   ends.0,
@@ -52,13 +52,13 @@ header-stops_second file second r read.Device ends is = tt
 header-stops_second file second r read.NoMemory ends is = tt
 
 -- what fails in a file is a call of the shelf
-pub unread-device : (number : ℕ) (e : ReadError) → unread number e ≡ error.Device → e ≡ read.Device
+pub unread-device : (number : ℕ) (e : ReadError) → error_of_read number e ≡ error.Device → e ≡ read.Device
 unread-device number (read.Fault fault) is = cc
 unread-device number read.Device is = refl
 unread-device number read.NoMemory is = cc
 
 -- the file that it names is one of the two
-pub unread-of_two : (number : ℕ) (e : ReadError) → number < 2 → IsOfTwo (unread number e)
+pub unread-of_two : (number : ℕ) (e : ReadError) → number < 2 → IsOfTwo (error_of_read number e)
 unread-of_two number (read.Fault fault) few = few
 unread-of_two number read.Device few = tt
 unread-of_two number read.NoMemory few = tt

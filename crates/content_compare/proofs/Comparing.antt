@@ -1,5 +1,6 @@
 -- Two files that are compared frame by frame.
-use Rattle.std.proofs.Common.{◌≡◌, ℕ, zero, suc, ◌+◌, Bool, true, false, List, [], ◌∷◌, ◌++◌, length, take, replicate, max}
+use Rattle.std.proofs.Common.{◌≡◌, ℕ, zero, suc, ◌+◌, Bool, true, false, List, [], ◌∷◌, ◌++◌, length, take, replicate}
+use Rattle.std.proofs.Common.{max}
 use Rattle.std.proofs.Common.{Option, Some, None, Ok, IsSomeAnd, IsTrue, ◌↔◌, refl, sym, ap, ◌∙◌, subst, arith}
 use mathlib.Core.Bool.{not, beq}
 use Rattle.std.specs.List.{AllZip, slice_get}

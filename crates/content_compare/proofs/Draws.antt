@@ -145,14 +145,16 @@ pub read-back : (one two three : Outside) (r s q p now : Reader) → ReadOn one 
     → GoesOn two three q.position now.position → Reads three now → (r.position.slot ≡ s.position.slot → ⊥)
     → ReadOn one three r s now p
 read-back one two three r s q p now on goes reads apart =
-    read-more one two three r s q p now p on (read-first two three q p now goes reads on.second (stay-apart one two r s q p on apart))
+    read-more one two three r s q p now p on
+    (read-first two three q p now goes reads on.second (stay-apart one two r s q p on apart))
 
 -- or the second
 pub read-also : (one two three : Outside) (r s q p now : Reader) → ReadOn one two r s q p
     → GoesOn two three p.position now.position → Reads three now → (r.position.slot ≡ s.position.slot → ⊥)
     → ReadOn one three r s q now
 read-also one two three r s q p now on goes reads apart =
-    read-more one two three r s q p q now on (read-second two three q p now goes reads on.first (stay-apart one two r s q p on apart))
+    read-more one two three r s q p q now on
+    (read-second two three q p now goes reads on.first (stay-apart one two r s q p on apart))
 
 -- the files of both stay
 pub told-first : (old new : Outside) (r s q p : Reader) (file : List ℕ) → ReadOn old new r s q p

@@ -12,7 +12,7 @@ use Rattle.dictionary.specs.Dictionary.{IsDictionary}
 use Rattle.frame_content.specs.Frames.{Frame}
 use Rattle.canonical_file.specs.Contents.{Differ}
 use Rattle.canonical_file.specs.Ordered.{frame_graph, SameFrame, ordered}
-use Rattle.canonical_file.specs.Written.{begun, frame_part}
+use Rattle.canonical_file.specs.Written.{header_alone, frame_part}
 use Rattle.canonical_laws.specs.Sources.{IsWritableInOrder}
 use Rattle.canonical_laws.proofs.EqualParts.{parts_tell}
 use Rattle.content_compare.proofs.SameClosings.{told}
@@ -51,9 +51,9 @@ frames-decided dictionary other f g sound also_sound writable also_writable =
     let tells = parts_tell dictionary other f g o p sound also_sound
     (record { order = left.0; breadth = left.1; is = refl }) (record { order = right.0; breadth = right.1; is = refl })
     writable also_writable in
-    told (bytes_eq (frame_part begun o) (frame_part begun p))
-    (Decides-like (bytes_eq (frame_part begun o) (frame_part begun p)) tells.0 tells.1
-    (bytes_eq-Decides (frame_part begun o) (frame_part begun p)))
+    told (bytes_eq (frame_part header_alone o) (frame_part header_alone p))
+    (Decides-like (bytes_eq (frame_part header_alone o) (frame_part header_alone p)) tells.0 tells.1
+    (bytes_eq-Decides (frame_part header_alone o) (frame_part header_alone p)))
 
 -- the first of them differ here
 abbrev pub DifferFirst : List Frame → List Frame → Type 0

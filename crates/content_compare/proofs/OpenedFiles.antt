@@ -3,7 +3,7 @@ use Rattle.std.proofs.Common.{◌≡◌, ℕ, ◌<◌, List, [], ◌∷◌, ◌+
 use Rattle.std.proofs.Common.{option_map, Err, refl, sym, ap, ◌∙◌, subst, arith}
 use Rattle.std.proofs.lemmas.Option.{none-some, same_Some}
 use Rattle.std.specs.Option.{option_and_then}
-use Rattle.frame_outside.specs.Counts.{counted}
+use Rattle.frame_outside.specs.Counts.{next_count}
 use Rattle.frame_outside.specs.Shelf.{Outside, Files, Reading, Slot, Source, Told, IsSource, Opens, Refuses, reading_at}
 use Rattle.frame_outside.specs.Shelf.{beginning, beginning_of}
 use Rattle.frame_outside.proofs.Slots.{IsSource-opens, IsSource-more, reading_at-given, reading_at-more}
@@ -16,12 +16,12 @@ use Rattle.content_compare.specs.Due.{Answer, IsDue, IsDueOf, IsDueOfHeld, IsAns
 
 -- the misses rise only where the name is not held, and that is due then
 first-missed : (held other : Option (List ℕ)) (old new : ℕ) (due : Answer) → IsDueOfHeld held other due
-    → new ≡ cond (is_none held) (counted old) old → old < new → due ≡ Err Device
+    → new ≡ cond (is_none held) (next_count old) old → old < new → due ≡ Err Device
 first-missed None other old new due is missed more = is
 first-missed (Some file) other old new due is missed more = absurd (omega (arith, missed, more))
 
 second-missed : (held other : Option (List ℕ)) (old new : ℕ) (due : Answer) → IsDueOfHeld held other due
-    → new ≡ cond (is_none other) (counted old) old → old < new → due ≡ Err Device
+    → new ≡ cond (is_none other) (next_count old) old → old < new → due ≡ Err Device
 second-missed None other old new due is missed more = is
 second-missed (Some file) None old new due is missed more = is
 second-missed (Some file) (Some second) old new due is missed more = absurd (omega (arith, missed, more))

@@ -13,7 +13,7 @@ use Rattle.item_reader.specs.Reader.{file_of}
 use Rattle.canonical_file.specs.Ranges.{AreBytes}
 use Rattle.frame_reader.specs.Gives.{Breaks, Gives}
 use Rattle.frame_reader.specs.Given.{Frames, HasGiven, GivesFrame, GivesAll, GoesOn}
-use Rattle.content_compare.specs.Answers.{unread}
+use Rattle.content_compare.specs.Answers.{error_of_read}
 use Rattle.content_compare.specs.Sides.{IsSide, Moves, EndsAs}
 use Rattle.content_compare.proofs.Draws.{file-stays}
 
@@ -84,7 +84,8 @@ pub side-all : (file : List ℕ) (frames : List Frame) (r : Frames) → GivesAll
 side-all file frames r all = record { given = all.given; ended = λ closed. all }
 
 -- and none after them
-pub side-none : (file : List ℕ) (frames : List Frame) (r : Frames) → GivesAll file frames r → IsSide file (frames ++ []) r
+pub side-none : (file : List ℕ) (frames : List Frame) (r : Frames) → GivesAll file frames r
+    → IsSide file (frames ++ []) r
 side-none file frames r all = subst (λ fs. IsSide file fs r) (sym (append-nil frames)) (side-all file frames r all)
 
 -- one of the two
@@ -149,7 +150,7 @@ pub reads_on-breaks : (first now : Outside) (before r new : Frames) (number : �
     → ReadsOn first before r → Passes first now before.reader.position r.reader.position
     → NextDoes now r new (Err error) → (file : List ℕ) (frames : List Frame)
     → file_of first before.reader.position.slot ≡ Some file → AreBytes file → IsSide file frames before
-    → EndsAs number file frames new (Err (unread number error))
+    → EndsAs number file frames new (Err (error_of_read number error))
 unfolding ReadsOn
 reads_on-breaks first now before r new number (read.Fault fault) on passes does file frames told bytes side =
     let so_far = on file frames told bytes side in (

@@ -11,14 +11,14 @@ use Rattle.frame_reader.specs.Given.{Frames}
 use Rattle.frame_reader.proofs.Ended.{all-given}
 use Rattle.content_compare.specs.declared.answers.CompareError.{CompareError}
 use Rattle.content_compare.specs.declared.answers.CompareError.TheVariants as error
-use Rattle.content_compare.specs.Answers.{unread}
+use Rattle.content_compare.specs.Answers.{error_of_read}
 use Rattle.content_compare.specs.Sides.{IsSide, EndsAs, Stops}
 use Rattle.content_compare.proofs.ReadingOn.{NextDoes, next-breaks}
 
 -- the first has a fault
 pub stops-first : (now : Outside) (old new : Frames) (file second : List ℕ) (frames : List Frame) (error : ReadError)
     → NextDoes now old new (Err error) → file_of now old.reader.position.slot ≡ Some file → AreBytes file
-    → IsSide file frames old → Stops file second (unread 0 error)
+    → IsSide file frames old → Stops file second (error_of_read 0 error)
 stops-first now old new file second frames (read.Fault fault) does told bytes side =
     (frames, next-breaks now old new file frames fault does told bytes side)
 stops-first now old new file second frames read.Device does told bytes side = tt
@@ -36,7 +36,7 @@ stops-before file second frames r error.NoMemory ends = tt
 pub stops-second : (now : Outside) (old new r : Frames) (file second : List ℕ) (frames others : List Frame)
     (error : ReadError) → EndsAs 0 file frames r (Ok tt) → NextDoes now old new (Err error)
     → file_of now old.reader.position.slot ≡ Some second → AreBytes second → IsSide second others old
-    → Stops file second (unread 1 error)
+    → Stops file second (error_of_read 1 error)
 stops-second now old new r file second frames others (read.Fault fault) ends does told bytes side = (
   refl,
   frames ++ ends.0,

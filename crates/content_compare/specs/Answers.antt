@@ -8,15 +8,15 @@ use Rattle.content_compare.specs.declared.answers.CompareError.{CompareError}
 use Rattle.content_compare.specs.declared.answers.CompareError.TheVariants as error
 
 -- a file of a number that cannot be read
-abbrev pub unread : ℕ → ReadError → CompareError
-unread file (read.Fault fault) = error.Fault file fault
-unread file read.Device = error.Device
-unread file read.NoMemory = error.NoMemory
+abbrev pub error_of_read : ℕ → ReadError → CompareError
+error_of_read file (read.Fault fault) = error.Fault file fault
+error_of_read file read.Device = error.Device
+error_of_read file read.NoMemory = error.NoMemory
 
 -- a call of the shelf that was refused
-abbrev pub refused : ShelfError → CompareError
-refused shelf.Failed = error.Device
-refused shelf.NoMemory = error.NoMemory
+abbrev pub error_of_shelf : ShelfError → CompareError
+error_of_shelf shelf.Failed = error.Device
+error_of_shelf shelf.NoMemory = error.NoMemory
 
 -- the file that is named is one of the two
 abbrev pub IsOfTwo : CompareError → Type 0

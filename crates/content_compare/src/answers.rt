@@ -1,7 +1,7 @@
 //! What is said of two files.
 
 ghost use Rattle.std.specs.Prelude.{◌≡◌};
-ghost use Rattle.content_compare.specs.Answers.{unread};
+ghost use Rattle.content_compare.specs.Answers.{error_of_read};
 
 use file_grammar::Fault;
 use frame_outside::ShelfError;
@@ -34,7 +34,7 @@ pub enum CompareError {
 impl CompareError {
     /// Why the file of a number cannot be read.
     pub fn of_file(file: u32, error: ReadError) -> CompareError
-        ensures { result ≡ unread file error }
+        ensures { result ≡ error_of_read file error }
     {
         match error {
             ReadError::Fault(fault) => CompareError::Fault { file, fault },
@@ -57,9 +57,9 @@ impl From<AllocError> for CompareError {
 
 impl From<ShelfError> for CompareError {
     ghost use Rattle.std.specs.Prelude.{◌≡◌};
-    ghost use Rattle.content_compare.specs.Answers.{refused};
+    ghost use Rattle.content_compare.specs.Answers.{error_of_shelf};
 
-    ghost from_gives = { λ error result. result ≡ refused error };
+    ghost from_gives = { λ error result. result ≡ error_of_shelf error };
 
     fn from(error: ShelfError) -> CompareError {
         match error {

@@ -19,7 +19,8 @@ use Rattle.layout_plan.specs.declared.fields.Form.TheVariants.{Number}
 use Rattle.layout_plan.specs.declared.fields.Count.{Count}
 use Rattle.layout_plan.specs.declared.fields.Count.TheVariants.{Of}
 use Rattle.layout_plan.specs.declared.fields.Field.{Field}
-use Rattle.layout_plan.specs.Layout.{form_of, counted_by, counted_by_type, named_count, count_in, counts_of, has_no_dims}
+use Rattle.layout_plan.specs.Layout.{form_of, counted_by, counted_by_type, named_count, count_in, counts_of}
+use Rattle.layout_plan.specs.Layout.{has_no_dims}
 use Rattle.layout_plan.specs.Layout.{is_check_sum, is_last, field_of_type, field_of, fields_after, layout_of}
 use Rattle.layout_plan.specs.Lent.{IsSingleField, IsNumberField}
 use Rattle.file_grammar.specs.Closing.{is_single, is_count, has_named, field_named}

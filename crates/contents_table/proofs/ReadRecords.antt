@@ -16,7 +16,7 @@ use Rattle.layout_plan.specs.declared.fields.Field.{Field}
 use Rattle.layout_plan.specs.Body.{IsBody}
 use Rattle.layout_plan.specs.Layout.{layout_of, IsLayout}
 use Rattle.layout_plan.specs.Plans.{plan_of}
-use Rattle.layout_plan.specs.Written.{cleared}
+use Rattle.layout_plan.specs.Written.{with_sums_cleared}
 use Rattle.layout_plan.proofs.BodyLemmas.{body_in-again}
 use Rattle.layout_plan.proofs.LayoutLemmas.{layout_of-IsLayout}
 use Rattle.link_graph.specs.Collected.{Bodied}
@@ -49,7 +49,7 @@ pub record IsReadRecord (held : List Entry) (order : Order) (r : Bodied) : Type 
   pub body : IsBody order fields values tail r.body
   pub values_are : values_in order held r ≡ values
   pub label_is : label_of order held r
-      ≡ record { entry = printed_entry entry; values = cleared fields (map unlinked values) }
+      ≡ record { entry = printed_entry entry; values = with_sums_cleared fields (map unlinked values) }
 
 pub read-record : (held : List Entry) (plans : Layouts) (order : Order) (r : Bodied) → ArePlansOf held plans
     → ReadsBy plans order r → IsReadRecord held order r

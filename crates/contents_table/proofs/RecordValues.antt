@@ -17,7 +17,7 @@ use Rattle.layout_plan.specs.declared.fields.Field.{Field}
 use Rattle.layout_plan.specs.Body.{AreFields}
 use Rattle.layout_plan.specs.Layout.{AreSums}
 use Rattle.layout_plan.specs.Links.{is_link_form}
-use Rattle.layout_plan.specs.Written.{cleared}
+use Rattle.layout_plan.specs.Written.{with_sums_cleared}
 use Rattle.layout_plan.proofs.LinkLemmas.{field-none}
 use Rattle.frame_content.specs.Labels.{unlinked, nullified}
 
@@ -37,7 +37,7 @@ unlinked-links (value.Bytes xs) = refl
 pub links-before : (order : Order) (numbers : List ℕ) (fields : List Field) (values : List Value)
     (bytes : List ℕ) (k : ℕ)
     → AreSums fields → AreFields order numbers fields values bytes
-    → length (links_in (take k (cleared fields (map unlinked values)))) ≡ length (links_in (take k values))
+    → length (links_in (take k (with_sums_cleared fields (map unlinked values)))) ≡ length (links_in (take k values))
 links-before order numbers fields values bytes zero sums s = refl
 links-before order numbers [] [] bytes (suc k) sums s = refl
 links-before order numbers [] (v ∷ vs) bytes (suc k) sums s = absurd s
@@ -46,7 +46,7 @@ links-before order numbers (f ∷ fs) (v ∷ vs) bytes (suc k) sums (front, rest
     omega (
       arith,
       length-append (links_of (cond f.is_sum (value.Num 0) (unlinked v)))
-          (links_in (take k (cleared fs (map unlinked vs)))),
+          (links_in (take k (with_sums_cleared fs (map unlinked vs)))),
       length-append (links_of v) (links_in (take k vs)),
       first f.is_sum refl,
       links-before order numbers fs vs rest k sums.1 s,
@@ -91,7 +91,7 @@ pub text-kept : (order : Order) (numbers : List ℕ) (fields : List Field) (valu
     (k : ℕ)
     (f : Field) (text : List ℕ) → AreSums fields → AreFields order numbers fields values bytes
     → slice_get fields k ≡ Some f → f.form ≡ Text → slice_get values k ≡ Some (value.Text text)
-    → slice_get (cleared fields (map unlinked values)) k ≡ Some (value.Text text)
+    → slice_get (with_sums_cleared fields (map unlinked values)) k ≡ Some (value.Text text)
 text-kept order numbers [] values bytes k f text sums s at form is = absurd (none-some f at)
 text-kept order numbers (g ∷ gs) [] bytes k f text sums s at form is = absurd s
 text-kept order numbers (g ∷ gs) (v ∷ vs) bytes zero f text sums s at form is =

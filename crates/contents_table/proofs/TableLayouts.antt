@@ -26,7 +26,8 @@ use Rattle.contents_table.specs.declared.fit.TableLayout.{TableLayout}
 use Rattle.contents_table.specs.Channels.{is_text}
 use Rattle.contents_table.specs.Fit.{count_field, names_field, positions_field, frames_field, heads_field, has_list}
 use Rattle.contents_table.specs.Fit.{has_positions_by_name, has_positions_by_frame, lists, lacks, has_table, is_fit}
-use Rattle.contents_table.specs.Fit.{kind_fields, table_layout, IsListField, IsKindLayout, IsTableLayout, AreDistinct, IsWideField}
+use Rattle.contents_table.specs.Fit.{kind_fields, table_layout, IsListField, IsKindLayout, IsTableLayout, AreDistinct}
+use Rattle.contents_table.specs.Fit.{IsWideField}
 use Rattle.contents_table.proofs.FirstNamed.{named-at, number-is}
 use Rattle.contents_table.proofs.NamedLists.{sizes, texts}
 use Rattle.contents_table.proofs.LayoutFields.{number-field, wide-field, list-field, counter-named, AreCounters}

@@ -66,7 +66,8 @@ next_field elements = field_where is_link (codes "next") elements
 abbrev pub name_field : List Element → Option ℕ
 name_field elements = field_where is_text (codes "name") elements
 
--- where the plain link of a field leads: its number among the record's links is that of the links in the fields before it
+-- where the plain link of a field leads: its number among the record's links is that of the links in the fields before
+-- it
 abbrev pub link_number : Label → ℕ → ℕ
 link_number label field = length (links_in (take field label.values))
 
@@ -113,7 +114,8 @@ channels_from (suc n) f name met None = []
 channels_from (suc n) f name met (Some k) =
     if has met k then [] else k ∷ channels_from n f name (k ∷ met) (next_channel f name k)
 
--- The channels of a kind, by the numbers of their records: none stands twice, so there are no more of them than records.
+-- The channels of a kind, by the numbers of their records: none stands twice, so there are no more of them than
+-- records.
 abbrev pub channels : Frame → Kind → List ℕ
 channels f kind = channels_from (length f.rows) f (structure_of kind) [] (first_channel f kind)
 

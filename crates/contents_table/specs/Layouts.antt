@@ -70,7 +70,8 @@ pub record AreOf (held : List Entry) (plans : Layouts) (layouts : ChannelLayouts
 -- field k of a record is a plain link
 abbrev pub HasPlainLink : Layouts → Collected → ℕ → ℕ → Type 0
 HasPlainLink plans s node k =
-    IfSome (slice_get s.nodes node) (λ (r : Bodied). IfSome (plan_of plans r.node.class) (λ fields. IsLinkField fields k))
+    IfSome (slice_get s.nodes node)
+    (λ (r : Bodied). IfSome (plan_of plans r.node.class) (λ fields. IsLinkField fields k))
 
 -- record n is of a class
 abbrev pub IsOfClass : Collected → ℕ → ℕ → Type 0

@@ -111,8 +111,8 @@ find_position table kind name frame =
 abbrev pub is_listed : List (List ℕ) → Listed → Bool
 is_listed names listed = list_any (bytes_eq listed.name) names
 
--- What is listed of a kind is good: the names are distinct, each name that a channel has is listed, and each position is
--- the place of that name's channel in that frame, or 0 exactly where there is none.
+-- What is listed of a kind is good: the names are distinct, each name that a channel has is listed, and each position
+-- is the place of that name's channel in that frame, or 0 exactly where there is none.
 pub record IsGoodKind (listed : List Listed) (t : KindTable) : Type 0 where
   pub distinct : are_distinct t.names ≡ true
   pub whole : list_all (is_listed t.names) listed ≡ true

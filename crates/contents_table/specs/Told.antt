@@ -1,5 +1,6 @@
 -- What the canonical table tells: some of its fields by number, and nothing in all others.
-use Rattle.std.specs.Prelude.{ℕ, ◌==◌, ◌+◌, Bool, if◌then◌else◌, List, [], ◌∷◌, ◌++◌, length, map, find, flat_map, replicate}
+use Rattle.std.specs.Prelude.{ℕ, ◌==◌, ◌+◌, Bool, if◌then◌else◌, List, [], ◌∷◌, ◌++◌, length, map, find, flat_map}
+use Rattle.std.specs.Prelude.{replicate}
 use Rattle.std.specs.Option.{option_map_or}
 use Rattle.scalar_types.specs.declared.Width.TheVariants.{One}
 use Rattle.record_values.specs.declared.values.Value.{Value}
@@ -51,7 +52,8 @@ unfoldable pub values_after : List (ℕ × Value) → List ℕ → List Field �
 values_after told numbers [] = []
 values_after told numbers (f ∷ fs) =
     told_at told (length numbers) (blank_by numbers f.form f.counts)
-    ∷ values_after told (numbers ++ number_of (told_at told (length numbers) (blank_by numbers f.form f.counts)) ∷ []) fs
+    ∷ values_after told (numbers ++ number_of (told_at told (length numbers) (blank_by numbers f.form f.counts))
+    ∷ []) fs
 
 -- The values of a record that tells these fields and no other.
 abbrev pub values_told : List (ℕ × Value) → List Field → List Value

@@ -42,7 +42,8 @@ unfolding step
 step-redefined held e = by (is_built_in e.class) (is_out_of_range e.class) (entry_of held e.class)
   where
     by : (built_in out : Bool) (o : Option Entry)
-        → cond built_in (cond (is_too_long e) (Err ElementLimit) (Ok held)) (cond out (Err ClassRange) (step_by o held e))
+        → cond built_in (cond (is_too_long e) (Err ElementLimit) (Ok held))
+        (cond out (Err ClassRange) (step_by o held e))
         ≡ Err Redefined → IsSomeAnd o (λ old. IsSameEntry old e → ⊥)
     by true out o h = absurd (on_length held e h)
     by false true o h = cc

@@ -24,4 +24,5 @@ abbrev pub IsVerdictOnNew : List Entry → Entry → ℕ → Verdict → Type 0
 IsVerdictOnNew held e class (Refused fault) = step_new held e ≡ Err fault
 IsVerdictOnNew held e class Known = ⊥
 IsVerdictOnNew held e class (New c) =
-    (step_new held e ≡ Ok (held ++ e ∷ [])) × (length e.elements ≤ 4096) × (class_named held e.name ≡ None) × (c ≡ class)
+    (step_new held e ≡ Ok (held ++ e ∷ [])) × (length e.elements ≤ 4096) × (class_named held e.name ≡ None)
+    × (c ≡ class)

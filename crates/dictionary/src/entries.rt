@@ -19,8 +19,8 @@ impl Element {
     ghost use Rattle.type_text.specs.TypeText.{type_of};
     ghost use Rattle.dictionary.specs.Same.{IsRead};
 
-    /// The element of this name, text and comment whose type is what the text reads as, so that its entry may be given to each
-    /// call that takes one. A text that is no type is no error. Takes memory for the type alone.
+    /// The element of this name, text and comment whose type is what the text reads as, so that its entry may be given
+    /// to each call that takes one. A text that is no type is no error. Takes memory for the type alone.
     pub fn new(alloc: Global, name: Name, text: Name, comment: Name) -> Result<Element, AllocError>
         ensures given { IfOk result
             (λ element. element ≡ record { name = name; ty = type_of text; text = text; comment = comment }) }

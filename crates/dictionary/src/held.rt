@@ -1,9 +1,11 @@
 //! The dictionary.
-ghost use Rattle.std.specs.Prelude.{◌≡◌, ◌↔◌, ◌++◌, [], ◌∷◌, Some, None, Ok, Err, nat_eq, if◌then◌else◌, IfOk, OnOk, OnErr, IfErr, IsOk, IsOkUnless};
+ghost use Rattle.std.specs.Prelude.{◌≡◌, ◌↔◌, ◌++◌, [], ◌∷◌, Some, None, Ok, Err, nat_eq, if◌then◌else◌, IfOk, OnOk};
+ghost use Rattle.std.specs.Prelude.{OnErr, IfErr, IsOk, IsOkUnless};
 ghost use Rattle.std.specs.Option.{option_copied};
 ghost use Rattle.indexmap.specs.IndexMap.{get};
 ghost use Rattle.dictionary.specs.Same.{AreRead, same_entries};
-ghost use Rattle.dictionary.specs.Dictionary.{entry_of, class_named, is_built_in, is_out_of_range, is_too_long, step, IsRedefined, IsDictionary};
+ghost use Rattle.dictionary.specs.Dictionary.{entry_of, class_named, is_built_in, is_out_of_range, is_too_long, step};
+ghost use Rattle.dictionary.specs.Dictionary.{IsRedefined, IsDictionary};
 ghost use Rattle.dictionary.specs.Verdicts.{IsNew, IsVerdict, IsVerdictOnNew};
 ghost use Rattle.dictionary.specs.Names.{Puts, Leaves};
 
@@ -96,9 +98,10 @@ impl Dictionary {
 
     /// Adds an entry, each of whose elements has the type that its text reads as.
     ///
-    /// Refuses it with the first fault that holds, in the order of `AddFault`. Of the classes 1 and 2, whose layouts are built
-    /// in, only ElementLimit is judged. The dictionary changes only where the class is 3 to 255 and was not held.
-    /// NoMemory comes only where an entry was to be held. A refused entry is dropped, and the dictionary stays as it was.
+    /// Refuses it with the first fault that holds, in the order of `AddFault`. Of the classes 1 and 2, whose layouts
+    /// are built in, only ElementLimit is judged. The dictionary changes only where the class is 3 to 255 and was not
+    /// held. NoMemory comes only where an entry was to be held. A refused entry is dropped, and the dictionary stays as
+    /// it was.
     pub fn add(&mut self, entry: Entry) -> Result<(), AddFault>
         requires { AreRead entry.elements }
         ensures redefined { (result ≡ Err AddFault.Redefined) ↔ IsRedefined self.old entry }

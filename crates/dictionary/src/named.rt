@@ -18,8 +18,8 @@ pub fn first_named<'a>(elements: &'a [Element], name: &[u8]) -> Option<(usize, &
     None
 }
 
-/// Whether the element's text reads as the type of this base whose dimensions are these names in order; no name stands for no
-/// dimension. Takes no memory.
+/// Whether the element's text reads as the type of this base whose dimensions are these names in order; no name stands
+/// for no dimension. Takes no memory.
 pub fn has_type(element: &Element, base: &Base, dims: &[&[u8]]) -> bool
     ensures { IsTrue result ↔ HasType element.now base.now (map (λ dim. dim.now) dims.now) }
 {

@@ -6,9 +6,11 @@ ghost use Rattle.type_text.specs.TypeText.{type_of};
 
 use crate::{Element, Entry};
 
-/// Whether the entries have the same class, structure name, element names in order and types. Comments are not compared.
+/// Whether the entries have the same class, structure name, element names in order and types. Comments are not
+/// compared.
 ///
-/// Types are the same where both texts read as one type, or neither reads and the texts are equal bytes. Takes no memory.
+/// Types are the same where both texts read as one type, or neither reads and the texts are equal bytes. Takes no
+/// memory.
 pub fn same_entry(a: &Entry, b: &Entry) -> bool
     requires a_read { AreRead a.now.elements }
     requires b_read { AreRead b.now.elements }

@@ -11,7 +11,7 @@ use Rattle.layout_plan.specs.declared.fields.Field.{Field}
 use Rattle.layout_plan.specs.declared.faults.BodyFault.{BodyFault}
 use Rattle.layout_plan.specs.Layout.{AreSound, layout_of}
 use Rattle.layout_plan.specs.Body.{IsTail, HasBody}
-use Rattle.layout_plan.specs.Reading.{and_then, fields_in, ended, body_in}
+use Rattle.layout_plan.specs.Reading.{and_then, fields_in, whole_body, body_in}
 use Rattle.layout_plan.proofs.LayoutLemmas.{layout_of-sound}
 use Rattle.layout_plan.proofs.ExactLemmas.{and_then-Ok}
 use Rattle.layout_plan.proofs.BodyLemmas.{ended-Ok, ended-tail, body_in-again, body_in-found}
@@ -28,7 +28,7 @@ pub has-read : (order : Order) (fields : List Field) (body : List ℕ) → AreSo
     → (values : List Value) × (tail : List ℕ) × AreRead order fields body values tail
 unfolding body_in
 has-read order fields body sound (values, tail, is) =
-    let x = and_then-Ok (fields_in order [] fields body) (ended (length fields)) (values, tail)
+    let x = and_then-Ok (fields_in order [] fields body) (whole_body (length fields)) (values, tail)
     (body_in-again order fields sound body values tail is) in
     let e = ended-tail (length fields) x.0 (values, tail) x.2 in
     (x.0.0, x.0.1, record { whole = x.1; ends = e.0 })
@@ -48,7 +48,7 @@ pub reading-is : (order : Order) (fields : List Field) (body : List ℕ) (values
     → (values ≡ reading.values) × (tail ≡ reading.tail)
 unfolding body_in reading_with
 reading-is order fields body values tail reading read is =
-    let e = ap (λ r. and_then r (ended (length fields))) read.whole
+    let e = ap (λ r. and_then r (whole_body (length fields))) read.whole
     ∙ ended-Ok (length fields) (values, tail) read.ends in
     let same = same_Some (reading_with fields (values, tail)) reading
     (ap (λ r. option_map (reading_with fields) (result_ok r)) (sym e) ∙ is) in

@@ -4,7 +4,8 @@ use Rattle.std.proofs.Common.{subst, ◌∙◌, arith, length-append}
 use Rattle.std.proofs.lemmas.List.{take-append-le, take_all}
 use Rattle.std.proofs.lemmas.Option.{none-some, same_Some}
 use Rattle.std.specs.Option.{option_map, option_and_then}
-use Rattle.frame_outside.specs.Shelf.{Outside, Files, Reading, Slot, Source, Told, Passes, Opens, reading_at, passed}
+use Rattle.frame_outside.specs.Shelf.{Outside, Files, Reading, Slot, Source, Told, Passes, Opens, reading_at}
+use Rattle.frame_outside.specs.Shelf.{reading_past}
 use Rattle.frame_outside.specs.Shelf.{slot_passed, pass, beginning, beginning_of}
 use Rattle.frame_outside.specs.SlotReader.{Draws}
 use Rattle.frame_outside.proofs.Slots.{reading_at-pass, reading_at-given, pass-given}
@@ -29,7 +30,7 @@ draws-more first middle last slot same p is q =
     }
 
 opened-passed : (n : ℕ) (told : Option Reading)
-    → option_map (λ (reading : Reading). reading.opened) (option_map (passed n) told)
+    → option_map (λ (reading : Reading). reading.opened) (option_map (reading_past n) told)
     ≡ option_map (λ (reading : Reading). reading.opened) told
 opened-passed n None = refl
 opened-passed n (Some reading) = refl

@@ -14,7 +14,8 @@ use Rattle.dumper.specs.Printed.{value_text}
 
 -- an item stands at the front of the bytes
 abbrev pub BeginsItem : Order → Form → List ℕ → Type 0
-BeginsItem order form bytes = (v : Value) × (front rest : List ℕ) × (bytes ≡ front ++ rest) × IsSingle order form v front
+BeginsItem order form bytes = (v : Value) × (front rest : List ℕ) × (bytes ≡ front ++ rest)
+    × IsSingle order form v front
 
 -- of the item at the front of the bytes, its value and the bytes that spell it
 abbrev pub OfItem : Order → Form → List ℕ → (Value → ℕ → Type 0) → Type 0

@@ -1,4 +1,5 @@
-//! The laws of dumps. Each is the contract of a function that does nothing: a crate that calls the function has the law.
+//! The laws of dumps. Each is the contract of a function that does nothing: a crate that calls the function has the
+//! law.
 
 ghost use Rattle.dumper.specs.Due.{EachFileHasADump, NoFileHasTwoDumps};
 

@@ -145,7 +145,8 @@ fn print_list<O: Sink>(
     requires form { form ≡ form_of base.now }
     requires spelled { (items : List Value) × AreSingles order form items bytes.now }
     ensures { (items : List Value) → AreSingles order form items bytes.now
-        → Prints (O.output out.old) (O.output out.new) page.old page.new (list_text (value_text base.now) items) result }
+        → Prints (O.output out.old) (O.output out.new) page.old page.new
+        (list_text (value_text base.now) items) result }
 {
     let composed = page.text.push('[');
     page.settle(out, composed)?;

@@ -2,7 +2,8 @@
 use Rattle.std.proofs.Common.{◌≡◌, ℕ, ◌⊎◌, inl, inr, refl, ap, ◌∙◌, List, Bool, codes}
 use Rattle.scalar_types.specs.declared.Order.{Order}
 use Rattle.file_grammar.specs.declared.kind.Kind.{Kind}
-use Rattle.file_grammar.specs.declared.kind.Kind.TheVariants.{FrSH, FrSE, FrameH, FrEndOfFrame, FrTOC, FrEndOfFile, Other}
+use Rattle.file_grammar.specs.declared.kind.Kind.TheVariants.{FrSH, FrSE, FrameH, FrEndOfFrame, FrTOC, FrEndOfFile}
+use Rattle.file_grammar.specs.declared.kind.Kind.TheVariants.{Other}
 use Rattle.file_grammar.specs.Structure.{Structure, structure_at}
 use Rattle.file_grammar.specs.Item.{Before, OtherItem}
 use Rattle.file_grammar.specs.MayStand.{MayStand}
@@ -35,7 +36,8 @@ ends-frame FrTOC h s at class tells = absurd tells
 ends-frame FrEndOfFile h s at class tells = absurd tells
 ends-frame Other h s at class tells = absurd tells
 
-pub is-table : (k : Kind) (h : Here) (s : Structure) (at class length : ℕ) → TellsKind k h s (given.Table at class length)
+pub is-table : (k : Kind) (h : Here) (s : Structure) (at class length : ℕ)
+    → TellsKind k h s (given.Table at class length)
     → (k ≡ FrTOC) × (at ≡ s.at) × (class ≡ s.class)
 is-table FrSH h s at class length tells = absurd tells
 is-table FrSE h s at class length tells = absurd tells

@@ -1,5 +1,6 @@
 -- What a contents table lists, by what its layout and its body are found to be.
-use Rattle.std.proofs.Common.{◌≡◌, ℕ, Bool, true, false, cond, List, Option, Some, None, IsSome, IsTrue, ◌↔◌, refl, ap, sym, ◌∙◌}
+use Rattle.std.proofs.Common.{◌≡◌, ℕ, Bool, true, false, cond, List, Option, Some, None, IsSome, IsTrue, ◌↔◌, refl, ap}
+use Rattle.std.proofs.Common.{sym, ◌∙◌}
 use Rattle.std.proofs.Common.{option_and_then, subst}
 use Rattle.std.specs.Option.{option_map}
 use Rattle.scalar_types.specs.declared.Order.{Order}
@@ -67,7 +68,8 @@ unspelled-listed order frames held class body e fields is unspelled =
         absurd (unspelled (
           r.values,
           r.tail,
-          reading-found order body fields r (layout_of-sound e.elements fields (layout-of held class e fields is)) found,
+          reading-found order body fields r
+              (layout_of-sound e.elements fields (layout-of held class e fields is)) found,
         ))
 
 -- a table that reads
@@ -78,7 +80,8 @@ pub read-listed : (order : Order) (frames : ℕ) (held : List Entry) (class : �
     → listed_in order frames held class body ≡ if_frames frames table
 read-listed order frames held class body e fields layout table is fit layout_is (values, tail, spelled) told =
     listed-is order frames held class body e fields is
-    ∙ ap (λ b. option_and_then (if_frames frames) (cond b (option_map (table_by e) (reading_by order body fields)) None))
+    ∙ ap (λ b. option_and_then (if_frames frames)
+    (cond b (option_map (table_by e) (reading_by order body fields)) None))
     fit
     ∙ ap (λ r. option_and_then (if_frames frames) (option_map (table_by e) r))
     (reading-again order body fields values tail

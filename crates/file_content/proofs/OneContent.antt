@@ -1,5 +1,6 @@
 -- A well-formed file has one content.
-use Rattle.std.proofs.Common.{◌≡◌, ℕ, zero, suc, ◌⊎◌, inl, inr, Bool, true, false, List, length, Option, Some, None, IfSome}
+use Rattle.std.proofs.Common.{◌≡◌, ℕ, zero, suc, ◌⊎◌, inl, inr, Bool, true, false, List, length, Option, Some, None}
+use Rattle.std.proofs.Common.{IfSome}
 use Rattle.std.proofs.Common.{option_and_then, refl, ap, sym, subst, ◌∙◌}
 use Rattle.std.proofs.lemmas.Bool.{false≢true}
 use Rattle.std.proofs.lemmas.Slice.Eq.{bytes_eq-Decides}
@@ -14,7 +15,8 @@ use Rattle.contents_table.specs.declared.names.Listed.{Listed}
 use Rattle.std.specs.List.{list_all}
 use Rattle.contents_table.specs.Built.{Built, listed_of, are_distinct}
 use Rattle.contents_table.specs.Told.{positions_of}
-use Rattle.contents_table.specs.Listed.{Table, KindTable, IsGood, IsGoodOf, IsGoodKind, table_of_kind, is_listed as is_in}
+use Rattle.contents_table.specs.Listed.{Table, KindTable, IsGood, IsGoodOf, IsGoodKind, table_of_kind}
+use Rattle.contents_table.specs.Listed.{is_listed as is_in}
 use Rattle.file_content.specs.declared.state.TableState.{TableState}
 use Rattle.file_content.specs.declared.state.TableState.TheVariants as state
 use Rattle.file_content.specs.declared.contents.Contents.{Contents}

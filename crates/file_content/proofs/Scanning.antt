@@ -1,5 +1,6 @@
 -- What is kept of the items of a file, after one more of them.
-use Rattle.std.proofs.Common.{◌≡◌, ◌≢◌, ℕ, ◌⊎◌, inl, inr, Bool, true, false, ◌&&◌, if◌then◌else◌, is_none, List, [], ◌∷◌, ◌++◌}
+use Rattle.std.proofs.Common.{◌≡◌, ◌≢◌, ℕ, ◌⊎◌, inl, inr, Bool, true, false, ◌&&◌, if◌then◌else◌, is_none, List, []}
+use Rattle.std.proofs.Common.{◌∷◌, ◌++◌}
 use Rattle.std.proofs.Common.{cond, codes, IsTrue, Result, Ok, Err, ◌+◌, is_some, append-nil, length-append}
 use Rattle.std.proofs.Common.{length, map, Option, Some, None, refl, ap, sym, subst, ◌∙◌, arith, option_and_then}
 use Rattle.std.proofs.lemmas.Bool.{false≢true}
@@ -37,7 +38,8 @@ use Rattle.contents_table.specs.Layouts.{AreOf, layouts_of}
 use Rattle.file_content.specs.declared.scan.FoundTable.{FoundTable}
 use Rattle.file_content.specs.declared.scan.Scan.{Scan}
 use Rattle.file_content.specs.declared.state.TableState.{TableState}
-use Rattle.file_content.specs.Stored.{StoredFrame, StoredTable, brought, frame_ended, frame_of_kind, table_here}
+use Rattle.file_content.specs.Stored.{StoredFrame, StoredTable, structures_brought, frame_ended, frame_of_kind}
+use Rattle.file_content.specs.Stored.{table_here}
 use Rattle.file_content.specs.Stored.{table_of_kind, seek_told, seek_of_kind, elements_of, frames_in, table_in, seek_in}
 use Rattle.file_content.specs.Contents.{built_of, with_stored, is_listed, listed_in, listed_by, if_frames, IsJudged}
 use Rattle.file_content.specs.Scanned.{IsFound, HasItems, HasScanned}
@@ -62,8 +64,9 @@ same-given x y is = cc
 
 more : (file : List ℕ) (order : Order) (b : Before) (last : Option Given) (scan : Scan)
     (old : HasItems file order b last scan) (item : Item) (now : Given) (next : Scan) → MayStand order file b item
-    → Adds order old.items (after order b item) (brought frame_ended b item) (brought table_here b item)
-    (brought (seek_told order) b item) now next
+    → Adds order old.items (after order b item) (structures_brought frame_ended b item)
+    (structures_brought table_here b item)
+    (structures_brought (seek_told order) b item) now next
     → HasItems file order (after order b item) (Some now) next
 more file order b last scan old item now next may adds = record {
   items = old.items ++ item ∷ [];
@@ -171,7 +174,8 @@ entry-brings file before new at class changed scan next old goes same last sound
           layouts = layouts ∙ ap (λ (b : Before). layouts_of b.dictionary) was;
           channels = channels ∙ old.channels_are
               ∙ ap (built_of before.order) (sym (append-nil (frames_in before.order old.items)));
-          table = subst (λ t. IsFound before.order before.before.frames next.channels (table_in before.order old.items) t)
+          table = subst (λ t. IsFound before.order before.before.frames next.channels
+              (table_in before.order old.items) t)
               (sym table)
               (subst (λ c. IsFound before.order before.before.frames c (table_in before.order old.items) scan.table)
               (sym channels) old.table_is);
@@ -182,22 +186,24 @@ entry-brings file before new at class changed scan next old goes same last sound
 -- ---- records
 
 -- what a structure adds of which nothing is kept
-nothing-added : (file : List ℕ) (order : Order) (b after : Before) (last : Option Given) (now : Given) (scan next : Scan)
+nothing-added : (file : List ℕ) (order : Order) (b after : Before) (last : Option Given) (now : Given)
+    (scan next : Scan)
     (old : HasItems file order b last scan) → after.dictionary ≡ b.dictionary → after.frames ≡ b.frames
     → after.table ≡ b.table → next.layouts ≡ scan.layouts → next.channels ≡ scan.channels → next.table ≡ scan.table
     → (seeks : List ℕ) → ((at class length seek : ℕ) → now ≡ given.FileEnd at class length seek
     → last_or (seek_in order old.items) seeks ≡ Some seek)
     → Adds order old.items after [] [] seeks now next
-nothing-added file order b after last now scan next old dictionary frames flag layouts channels table seeks seek = record {
-  sound = subst IsDictionary (sym dictionary) old.sound;
-  layouts = layouts ∙ old.layouts_are ∙ ap layouts_of (sym dictionary);
-  channels = channels ∙ old.channels_are ∙ ap (built_of order) (sym (append-nil (frames_in order old.items)));
-  table = subst (λ n. IsFound order n next.channels (table_in order old.items) next.table) (sym frames)
-      (subst (λ t. IsFound order b.frames next.channels (table_in order old.items) t) (sym table)
-      (subst (λ c. IsFound order b.frames c (table_in order old.items) scan.table) (sym channels) old.table_is));
-  none = λ none. old.no_table (sym flag ∙ none);
-  seek = seek;
-}
+nothing-added file order b after last now scan next old dictionary frames flag layouts channels table seeks seek =
+    record {
+      sound = subst IsDictionary (sym dictionary) old.sound;
+      layouts = layouts ∙ old.layouts_are ∙ ap layouts_of (sym dictionary);
+      channels = channels ∙ old.channels_are ∙ ap (built_of order) (sym (append-nil (frames_in order old.items)));
+      table = subst (λ n. IsFound order n next.channels (table_in order old.items) next.table) (sym frames)
+          (subst (λ t. IsFound order b.frames next.channels (table_in order old.items) t) (sym table)
+          (subst (λ c. IsFound order b.frames c (table_in order old.items) scan.table) (sym channels) old.table_is));
+      none = λ none. old.no_table (sym flag ∙ none);
+      seek = seek;
+    }
 
 pub record-brings : (file : List ℕ) (before new : Reader) (at class instance node : ℕ) (scan next : Scan)
     → HasScanned file before scan → Goes file before (given.Plain at class instance node) new
@@ -291,7 +297,8 @@ frame-brings file before new at class scan next plans old goes same last are lay
         ∙ ap (λ built. with_stored before.order built (ended s)) old.channels_are
         ∙ sym (built-push before.order (frames_in before.order old.items) (ended s))
 
-    of : (s : Structure) (may : MayStand before.order file b (OtherItem s)) → kind_of b.dictionary s.class ≡ FrEndOfFrame
+    of : (s : Structure) (may : MayStand before.order file b (OtherItem s))
+        → kind_of b.dictionary s.class ≡ FrEndOfFrame
         → s ≡ structure h → new.before ≡ after before.order b (OtherItem s)
         → HasItems file before.order (after before.order b (OtherItem s)) (Some now) next
     of s may is here was =
@@ -362,7 +369,8 @@ table-brings file before new at class size scan next state old goes same last ju
 
     judged-here : (s : Structure) → class ≡ s.class
         → new.before ≡ after_kind FrTOC b s (weight_of before.order b.dictionary s)
-        → new.body ≡ body_after h (OtherItem s) → IsJudged (is_listed before.order b.frames (stored s)) scan.channels state
+        → new.body ≡ body_after h (OtherItem s)
+        → IsJudged (is_listed before.order b.frames (stored s)) scan.channels state
     judged-here s class_is was body =
         subst (λ t. IsJudged t scan.channels state)
         (ap (λ o. listed_in o new.before.frames new.before.dictionary class new.body) same

@@ -1,7 +1,7 @@
 -- A reader on its way through the file that a slot was opened on.
 use Rattle.std.proofs.Common.{◌≡◌, ℕ, ◌+◌, Bool, true, false, List, Option, Some, None, refl, ap, subst, ◌∙◌}
 use Rattle.std.specs.Option.{option_map}
-use Rattle.frame_outside.specs.Shelf.{Outside, Reading, Told, Passes, reading_at, passed}
+use Rattle.frame_outside.specs.Shelf.{Outside, Reading, Told, Passes, reading_at, reading_past}
 use Rattle.frame_outside.specs.SlotReader.{Draws}
 use Rattle.frame_outside.proofs.Slots.{reading_at-pass}
 use Rattle.frame_outside.proofs.Reading.{passes_none, passes_more}
@@ -22,7 +22,7 @@ draws_more first middle last slot same p is q =
     }
 
 opened-passed : (n : ℕ) (told : Option Reading)
-    → option_map (λ reading. reading.opened) (option_map (passed n) told)
+    → option_map (λ reading. reading.opened) (option_map (reading_past n) told)
     ≡ option_map (λ reading. reading.opened) told
 opened-passed n None = refl
 opened-passed n (Some reading) = refl

@@ -1,5 +1,5 @@
--- What a well-formed file holds, as far as its frames are counted and its channels listed, and the state of its contents
--- table.
+-- What a well-formed file holds, as far as its frames are counted and its channels listed, and the state of its
+-- contents table.
 use Rattle.std.specs.Prelude.{◌≡◌, ℕ, zero, suc, ◌+◌, ◌==◌, if◌then◌else◌, ◌⊎◌, List, fold, length}
 use Rattle.std.specs.Prelude.{option_and_then, Option, Some, None}
 use Rattle.std.specs.Option.{option_map, option_map_or}
@@ -67,8 +67,8 @@ abbrev pub IsStateOf : Order → ℕ → Built → Option StoredTable → TableS
 IsStateOf order frames built None s = s ≡ state.Lost
 IsStateOf order frames built (Some t) s = IsJudged (is_listed order frames t) built s
 
--- The state of the table of a file of so many bytes and frames, with these channels, whose end leads back by so many bytes,
--- or by 0 for no table.
+-- The state of the table of a file of so many bytes and frames, with these channels, whose end leads back by so many
+-- bytes, or by 0 for no table.
 abbrev pub IsState : Order → ℕ → ℕ → Built → Option StoredTable → ℕ → TableState → Type 0
 IsState order bytes frames built table zero s = s ≡ state.None
 IsState order bytes frames built table (suc n) s =

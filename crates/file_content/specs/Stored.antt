@@ -8,7 +8,8 @@ use Rattle.dictionary.specs.declared.entries.Entry.{Entry}
 use Rattle.dictionary.specs.Dictionary.{entry_of}
 use Rattle.link_graph.specs.Collected.{Bodied}
 use Rattle.file_grammar.specs.declared.kind.Kind.{Kind}
-use Rattle.file_grammar.specs.declared.kind.Kind.TheVariants.{FrSH, FrSE, FrameH, FrEndOfFrame, FrTOC, FrEndOfFile, Other}
+use Rattle.file_grammar.specs.declared.kind.Kind.TheVariants.{FrSH, FrSE, FrameH, FrEndOfFrame, FrTOC, FrEndOfFile}
+use Rattle.file_grammar.specs.declared.kind.Kind.TheVariants.{Other}
 use Rattle.file_grammar.specs.Structure.{Structure}
 use Rattle.file_grammar.specs.Kind.{kind_of}
 use Rattle.file_grammar.specs.Record.{values_of}
@@ -17,13 +18,14 @@ use Rattle.file_grammar.specs.Closing.{number_named}
 use Rattle.item_reader.specs.State.{bodied_of}
 
 -- what the items bring, each by what stands before it
-abbrev pub brought : {X : Type 0} → (Before → Structure → List X) → Before → Item → List X
-brought from b (EntryItem head run entry) = []
-brought from b (OtherItem s) = from b s
+abbrev pub structures_brought : {X : Type 0} → (Before → Structure → List X) → Before → Item → List X
+structures_brought from b (EntryItem head run entry) = []
+structures_brought from b (OtherItem s) = from b s
 
 abbrev pub brought_in : {X : Type 0} → (Before → Structure → List X) → Order → Before → List Item → List X
 brought_in from order b [] = []
-brought_in from order b (item ∷ items) = brought from b item ++ brought_in from order (after order b item) items
+brought_in from order b (item ∷ items) =
+    structures_brought from b item ++ brought_in from order (after order b item) items
 
 -- A frame as it stands: the entries held at its end, its records in file order, and its end record.
 pub record StoredFrame : Type 0 where

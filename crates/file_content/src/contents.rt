@@ -33,8 +33,8 @@ pub struct Contents {
     pub channels: TableBuilder,
 }
 
-/// What the file holds that a source slot was opened on, at its beginning. Nothing but this slot is drawn from, up to the
-/// file's end or its first fault; it takes the memory of one frame and of the names and places of all channels.
+/// What the file holds that a source slot was opened on, at its beginning. Nothing but this slot is drawn from, up to
+/// the file's end or its first fault; it takes the memory of one frame and of the names and places of all channels.
 ///
 /// # Errors
 ///

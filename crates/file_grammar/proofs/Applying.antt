@@ -24,8 +24,9 @@ use Rattle.file_grammar.specs.Structure.{record_limit}
 use Rattle.file_grammar.specs.Kind.{kind_of, kind_named, is_frame_kind, is_target_kind, is_closing_kind, is_header_kind}
 use Rattle.file_grammar.specs.Kind.{is_end_kind, is_table_kind, is_file_end_kind}
 use Rattle.file_grammar.specs.Record.{layout_in}
-use Rattle.file_grammar.specs.Fault.{Here, left, told, held, class, kind, structure, fields_by, refusal_by, body_fault}
-use Rattle.file_grammar.specs.Fault.{here, here_at, same_reason, same_refusal, judged}
+use Rattle.file_grammar.specs.Fault.{Here, bytes_there, length_there, entries_before, class, kind, structure, fields_by}
+use Rattle.file_grammar.specs.Fault.{refusal_by, body_fault}
+use Rattle.file_grammar.specs.Fault.{here, here_at, same_reason, same_refusal, fault_spot}
 use Rattle.file_grammar.proofs.Lengths.{is_uncut, Fits}
 
 -- whether a reason may hold of a whole structure of a kind
@@ -67,14 +68,16 @@ layout-unapplied false true found e = refl
 layout-unapplied false false (Some x) e = refl
 layout-unapplied false false None e = absurd (true≢false e)
 
-stray-unapplied : (held : List Entry) (class : ℕ) → applies StrayElement (kind_of held class) ≡ false
+stray-unapplied : (entries_before : List Entry) (class : ℕ)
+    → applies StrayElement (kind_of entries_before class) ≡ false
     → (class == 2) ≡ false
-stray-unapplied held class e = by (class == 2) refl
+stray-unapplied entries_before class e = by (class == 2) refl
   where
     by : (b : Bool) → (class == 2) ≡ b → (class == 2) ≡ false
     by false is = is
     by true is =
-        absurd (true≢false (subst (λ c. applies StrayElement (kind_of held c) ≡ false) (eqb-true class 2 is) e))
+        absurd (true≢false (subst (λ c. applies StrayElement (kind_of entries_before c) ≡ false)
+        (eqb-true class 2 is) e))
 
 unread-unapplied : (k : Kind) (found : Option (List Field)) → applies UnreadLayout k ≡ false
     → (not (is_table_kind k) && is_none (fields_by k found)) ≡ false
@@ -94,28 +97,28 @@ no-refusal k h e = refl
 no-body_fault : (h : Here) → not (is_table_kind (kind h)) ≡ false → body_fault h ≡ None
 no-body_fault h e =
     ap (λ o. option_and_then (λ fields. fault_of h.order fields (structure h).body) o)
-    (no-fields (kind h) (layout_in (held h) (class h)) e)
+    (no-fields (kind h) (layout_in (entries_before h) (class h)) e)
 
 -- A reason that does not apply to the kind of a whole structure does not hold of it.
-pub unapplied : (h : Here) → Fits (left h) (told h) → (reason : Reason) → applies reason (kind h) ≡ false
-    → judged reason h ≡ None
+pub unapplied : (h : Here) → Fits (bytes_there h) (length_there h) → (reason : Reason) → applies reason (kind h) ≡ false
+    → fault_spot reason h ≡ None
 unapplied h fits CutRecord e =
-    ap (here h) (is_uncut (left h) (told h) record_limit fits.head (λ more small. fits.whole))
-unapplied h fits LengthSmall e = ap (here h) (le-ltb (told h) 14 fits.enough)
+    ap (here h) (is_uncut (bytes_there h) (length_there h) record_limit fits.head (λ more small. fits.whole))
+unapplied h fits LengthSmall e = ap (here h) (le-ltb (length_there h) 14 fits.enough)
 unapplied h fits RecordLimit e =
-    ap (here h) (or_from _ _ (le-ltb record_limit (told h) fits.small) (and_left _ _ e))
+    ap (here h) (or_from _ _ (le-ltb record_limit (length_there h) fits.small) (and_left _ _ e))
 unapplied h fits FrameLimit e = ap (here h) (and_left _ _ e)
 unapplied h fits NoLayout e =
-    ap (here h) (layout-unapplied (class h == 1) (class h == 2) (entry_of (held h) (class h)) e)
+    ap (here h) (layout-unapplied (class h == 1) (class h == 2) (entry_of (entries_before h) (class h)) e)
 unapplied h fits UnreadLayout e =
-    ap (here h) (unread-unapplied (kind h) (layout_in (held h) (class h)) e)
+    ap (here h) (unread-unapplied (kind h) (layout_in (entries_before h) (class h)) e)
 unapplied h fits BodyShort e =
     ap (option_and_then (λ f. here_at h f.field (same_reason f.reason body.BodyShort))) (no-body_fault h e)
 unapplied h fits BodyLong e =
     ap (option_and_then (λ f. here_at h f.field (same_reason f.reason body.BodyLong))) (no-body_fault h e)
 unapplied h fits BadText e =
     ap (option_and_then (λ f. here_at h f.field (same_reason f.reason body.BadText))) (no-body_fault h e)
-unapplied h fits StrayElement e = ap (here h) (stray-unapplied (held h) (class h) e)
+unapplied h fits StrayElement e = ap (here h) (stray-unapplied (entries_before h) (class h) e)
 unapplied h fits ClassRange e =
     ap (option_and_then (λ f. here h (same_refusal f add.ClassRange))) (no-refusal (kind h) h e)
 unapplied h fits Redefined e =

@@ -27,9 +27,10 @@ use Rattle.file_grammar.specs.Item.{Item, EntryItem, OtherItem}
 use Rattle.file_grammar.specs.Closing.{closes, number_named, field_named}
 use Rattle.file_grammar.specs.MayStand.{frames_limit, RecordMayStand, IsNewIn, FileEndMayStand, KindMayStand}
 use Rattle.file_grammar.specs.MayStand.{StructureMayStand}
-use Rattle.file_grammar.specs.Fault.{Here, place, told, held, class, kind, structure, elements, number, load, weight}
+use Rattle.file_grammar.specs.Fault.{Here, place, length_there, entries_before, class, kind, structure, elements}
+use Rattle.file_grammar.specs.Fault.{number, load, weight}
 use Rattle.file_grammar.specs.Fault.{fields, body_fault, err_of, refusal, here, here_at, has_twin, has_header, is_empty}
-use Rattle.file_grammar.specs.Fault.{judged, first_of, reasons}
+use Rattle.file_grammar.specs.Fault.{fault_spot, first_of, reasons}
 use Rattle.file_grammar.specs.Steps.{reasons_of, weight_reason, item_by, item_here}
 use Rattle.file_grammar.proofs.Firsts.{first_of-passes}
 use Rattle.file_grammar.proofs.Lengths.{fits-length}
@@ -50,9 +51,9 @@ pub record IsClear (h : Here) (item : Item) : Type 0 where
   pub none : first_of reasons h ≡ None
   pub here : item_here h ≡ Some item
 
-file-clear : (h : Here) → StandsWhole h.order h.file (structure h) → judged FileLimit h ≡ None
+file-clear : (h : Here) → StandsWhole h.order h.file (structure h) → fault_spot FileLimit h ≡ None
 file-clear h stands =
-    ap (here h) (le-ltb file_limit (place h + told h) (stands-within h.order h.file (structure h) stands))
+    ap (here h) (le-ltb file_limit (place h + length_there h) (stands-within h.order h.file (structure h) stands))
 
 -- no reason holds where none of its kind does
 clear-kind : (h : Here) (k : Kind) → StandsWhole h.order h.file (structure h) → kind h ≡ k
@@ -70,12 +71,12 @@ not-refused (Ok next) taken = refl
 not-refused (Err f) taken = cc
 
 pub entry-clear : (h : Here) (run : List Structure) (entry : Entry) → IsEntry h.order h.file (structure h) run entry
-    → IsOk (step (held h) entry) → IsClear h (EntryItem (structure h) run entry)
+    → IsOk (step (entries_before h) entry) → IsClear h (EntryItem (structure h) run entry)
 entry-clear h run entry described taken =
     let found = entry-again h.order h.file (structure h) run entry described in
     let good : body_fault h ≡ None = body_fault-of h structure_fields (fields-FrSH h is)
     ∙ no_fault-entry h.order h.file (structure h) run entry described in
-    let free : refusal h ≡ None = refusal-of h entry is found.0 ∙ not-refused (step (held h) entry) taken in
+    let free : refusal h ≡ None = refusal-of h entry is found.0 ∙ not-refused (step (entries_before h) entry) taken in
     record {
       none = clear-kind h FrSH described.stands is (first_of-good_body h (drop 3 (reasons_of FrSH)) good
           ∙ first_of-taken h (FileLimit ∷ []) free ∙ first_of-passes FileLimit [] h (file-clear h described.stands));
@@ -84,28 +85,29 @@ entry-clear h run entry described taken =
     }
   where
     is : kind h ≡ FrSH
-    is = ap (kind_of (held h)) described.class
+    is = ap (kind_of (entries_before h)) described.class
 
 -- ---- what may stand tells that the reasons do not hold
 
-table-clear : (h : Here) → h.before.table ≡ false → judged AfterTable h ≡ None
+table-clear : (h : Here) → h.before.table ≡ false → fault_spot AfterTable h ≡ None
 table-clear h none =
     ap (here h) (and_left h.before.table (is_frame_kind (kind h) || is_table_kind (kind h)) none)
 
-frame-clear : (h : Here) → h.before.frame ≡ [] → judged OpenFrame h ≡ None
+frame-clear : (h : Here) → h.before.frame ≡ [] → fault_spot OpenFrame h ≡ None
 frame-clear h none =
     ap (here h) (and_right (is_closing_kind (kind h)) (not (is_empty h.before.frame))
     (ap (λ frame. not (is_empty frame)) none))
 
 -- a body that reads has no fault
 pub record Reads (h : Here) : Type 0 where
-  pub layout : judged UnreadLayout h ≡ None
+  pub layout : fault_spot UnreadLayout h ≡ None
   pub body : body_fault h ≡ None
 
-reads-clear : (h : Here) (r : Reading) → fields h ≡ layout_in (held h) (class h)
-    → reading_of h.order (held h) (structure h) ≡ Some r → Reads h
+reads-clear : (h : Here) (r : Reading) → fields h ≡ layout_in (entries_before h) (class h)
+    → reading_of h.order (entries_before h) (structure h) ≡ Some r → Reads h
 reads-clear h r same read =
-    option_and_then_some (reading_by h.order (structure h).body) (layout_in (held h) (class h)) r read (λ fs layout by.
+    option_and_then_some (reading_by h.order (structure h).body) (layout_in (entries_before h) (class h)) r read
+    (λ fs layout by.
     let is : fields h ≡ Some fs = same ∙ layout in
     record {
       layout = ap (here h) (and_right (not (is_table_kind (kind h))) (is_none (fields h)) (ap is_none is));
@@ -113,20 +115,21 @@ reads-clear h r same read =
     })
 
 -- a class that is held has a layout
-layout-clear : (h : Here) (entry : Entry) → entry_of (held h) (class h) ≡ Some entry → judged NoLayout h ≡ None
+layout-clear : (h : Here) (entry : Entry) → entry_of (entries_before h) (class h) ≡ Some entry
+    → fault_spot NoLayout h ≡ None
 layout-clear h entry found =
-    ap (here h) (and_right (not (class h == 1 || class h == 2)) (is_none (entry_of (held h) (class h)))
+    ap (here h) (and_right (not (class h == 1 || class h == 2)) (is_none (entry_of (entries_before h) (class h)))
     (ap is_none found))
 
 -- its weight is within the limits
 weight-clear : (h : Here) → StandsWhole h.order h.file (structure h) → RecordMayStand h.order h.before (structure h)
-    → weight_reason (load h) (told h) (weight h) ≡ None
+    → weight_reason (load h) (length_there h) (weight h) ≡ None
 weight-clear h stands may =
-    let size : size_of (structure h) ≡ told h =
+    let size : size_of (structure h) ≡ length_there h =
     size-structure_at h.order h.file (place h) (stands-fits h.order h.file (structure h) stands) in
-    let more : told h ≤ weight h =
-    subst (λ n. n ≤ weight h) size (size-weight h.order (held h) (structure h) may.reading may.reads) in
-    weight_reason-none (load h) (told h) (weight h) (omega (arith, more, may.load)) may.weight may.load
+    let more : length_there h ≤ weight h =
+    subst (λ n. n ≤ weight h) size (size-weight h.order (entries_before h) (structure h) may.reading may.reads) in
+    weight_reason-none (load h) (length_there h) (weight h) (omega (arith, more, may.load)) may.weight may.load
 
 -- the reasons at the front of a record's
 record-clear : (h : Here) (k : Kind) (rs : List Reason) → StandsWhole h.order h.file (structure h) → kind h ≡ k
@@ -136,7 +139,7 @@ record-clear h k rs stands is frame may =
     first_of-light h rs (ap is_frame_kind is ∙ frame) (stands-fits h.order h.file (structure h) stands).small
     (weight-clear h stands may)
 
-twin-clear : (h : Here) → IsNewIn h.before.frame (structure h) → judged InstanceTwice h ≡ None
+twin-clear : (h : Here) → IsNewIn h.before.frame (structure h) → fault_spot InstanceTwice h ≡ None
 twin-clear h new =
     ap (here h) (and_right (is_target_kind (kind h)) (has_twin h.before.frame (structure h))
     (no_twin-new h.before.frame (structure h) new))
@@ -144,7 +147,8 @@ twin-clear h new =
 -- ---- the kinds
 
 other-clear : (h : Here) → StandsWhole h.order h.file (structure h) → (entry : Entry)
-    → entry_of (held h) (class h) ≡ Some entry → kind h ≡ Other → KindMayStand Other h.order h.before (structure h)
+    → entry_of (entries_before h) (class h) ≡ Some entry → kind h ≡ Other
+    → KindMayStand Other h.order h.before (structure h)
     → first_of (reasons_of Other) h ≡ None
 other-clear h stands entry found is (may, new) =
     let reads = reads-clear h may.reading (fields-layout h (ap (applies UnreadLayout) is)) may.reads in
@@ -165,9 +169,9 @@ header-clear h stands is (may, new, first) =
     ∙ first_of-good_body h (drop 6 (reasons_of FrameH)) reads.body
     ∙ first_of-passes InstanceTwice (FrameHTwice ∷ AfterTable ∷ FileLimit ∷ []) h (twin-clear h new)
     ∙ first_of-passes FrameHTwice (AfterTable ∷ FileLimit ∷ []) h
-    (ap (here h) (and_right (is_header_kind (kind h)) (has_header (held h) h.before.frame)
-    (false_from_ne_true (has_header (held h) h.before.frame)
-    (λ some. first (header-found (held h) h.before.frame some)))))
+    (ap (here h) (and_right (is_header_kind (kind h)) (has_header (entries_before h) h.before.frame)
+    (false_from_ne_true (has_header (entries_before h) h.before.frame)
+    (λ some. first (header-found (entries_before h) h.before.frame some)))))
     ∙ first_of-passes AfterTable (FileLimit ∷ []) h (table-clear h may.table)
     ∙ first_of-passes FileLimit [] h (file-clear h stands)
 
@@ -179,11 +183,11 @@ frame_end-clear h stands is (may, header, linked, more) =
     ∙ first_of-passes UnreadLayout (drop 3 (reasons_of FrEndOfFrame)) h reads.layout
     ∙ first_of-good_body h (drop 6 (reasons_of FrEndOfFrame)) reads.body
     ∙ first_of-passes NoFrameH (drop 7 (reasons_of FrEndOfFrame)) h
-    (ap (here h) (and_right (is_end_kind (kind h)) (not (has_header (held h) h.before.frame))
-    (ap not (header-again (held h) h.before.frame header))))
+    (ap (here h) (and_right (is_end_kind (kind h)) (not (has_header (entries_before h) h.before.frame))
+    (ap not (header-again (entries_before h) h.before.frame header))))
     ∙ first_of-passes LooseLink (drop 8 (reasons_of FrEndOfFrame)) h
     (cond-true (is_end_kind (kind h)) _ _ (ap is_end_kind is)
-    ∙ no_loose-linked h.order (held h) h.before.frame h.before.frame linked)
+    ∙ no_loose-linked h.order (entries_before h) h.before.frame h.before.frame linked)
     ∙ first_of-passes AfterTable (FileLimit ∷ FramesLimit ∷ []) h (table-clear h may.table)
     ∙ first_of-passes FileLimit (FramesLimit ∷ []) h (file-clear h stands)
     ∙ first_of-passes FramesLimit [] h
@@ -198,14 +202,14 @@ table-kind-clear h stands (frame, table) =
     ∙ first_of-passes FileLimit [] h (file-clear h stands)
 
 -- what FrEndOfFile tells
-frames-clear : (h : Here) → number h (codes "nFrames") ≡ h.before.frames → judged FrameCount h ≡ None
+frames-clear : (h : Here) → number h (codes "nFrames") ≡ h.before.frames → fault_spot FrameCount h ≡ None
 frames-clear h is =
     ap (here_at h (field_named (elements h) (codes "nFrames")))
     (and_right (is_file_end_kind (kind h)) (not (number h (codes "nFrames") == h.before.frames))
     (ap not (eq-eqb (number h (codes "nFrames")) h.before.frames is)))
 
 bytes-clear : (h : Here) → (number h (codes "nBytes") ≡ 0) ⊎ (number h (codes "nBytes") ≡ end_of (structure h))
-    → judged ByteCount h ≡ None
+    → fault_spot ByteCount h ≡ None
 bytes-clear h is =
     ap (here_at h (field_named (elements h) (codes "nBytes")))
     (and_right (is_file_end_kind (kind h))
@@ -221,7 +225,7 @@ end-clear : (h : Here) → StandsWhole h.order h.file (structure h) → kind h �
     → FileEndMayStand h.order h.before (structure h) → first_of (reasons_of FrEndOfFile) h ≡ None
 end-clear h stands is may =
     let reads = reads-clear h may.reading (fields-layout h (ap (applies UnreadLayout) is)) may.reads in
-    let told : (name : List ℕ)
+    let length_there : (name : List ℕ)
     → number h name ≡ number_named may.entry.elements may.reading.values name =
     λ name. number-here h may.entry may.reading name may.held may.reads in
     let layout : closes (elements h) ≡ true = ap (λ o. closes (option_map_or (λ (e : Entry). e.elements) o [])) may.held
@@ -231,9 +235,10 @@ end-clear h stands is may =
     ∙ first_of-passes OpenFrame (drop 5 (reasons_of FrEndOfFile)) h (frame-clear h may.frame)
     ∙ first_of-passes BadClosing (drop 6 (reasons_of FrEndOfFile)) h
     (ap (here h) (and_right (is_file_end_kind (kind h)) (not (closes (elements h))) (ap not layout)))
-    ∙ first_of-passes FrameCount (ByteCount ∷ FileLimit ∷ []) h (frames-clear h (told (codes "nFrames") ∙ may.frames))
+    ∙ first_of-passes FrameCount (ByteCount ∷ FileLimit ∷ []) h
+    (frames-clear h (length_there (codes "nFrames") ∙ may.frames))
     ∙ first_of-passes ByteCount (FileLimit ∷ []) h
-    (bytes-clear h (subst (λ n. (n ≡ 0) ⊎ (n ≡ end_of (structure h))) (sym (told (codes "nBytes"))) may.bytes))
+    (bytes-clear h (subst (λ n. (n ≡ 0) ⊎ (n ≡ end_of (structure h))) (sym (length_there (codes "nBytes"))) may.bytes))
     ∙ first_of-passes FileLimit [] h (file-clear h stands)
 
 -- ---- all kinds but FrSH

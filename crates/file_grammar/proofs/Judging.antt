@@ -13,7 +13,8 @@ use Rattle.layout_plan.specs.declared.faults.BodyFault.{BodyFault}
 use Rattle.layout_plan.specs.Body.{values_length}
 use Rattle.file_grammar.specs.declared.reason.Reason.{Reason}
 use Rattle.file_grammar.specs.declared.reason.Reason.TheVariants.{CutRecord, LengthSmall, RecordLimit, FrameLimit}
-use Rattle.file_grammar.specs.declared.reason.Reason.TheVariants.{BodyShort, BodyLong, BadText, StrayElement, ClassRange}
+use Rattle.file_grammar.specs.declared.reason.Reason.TheVariants.{BodyShort, BodyLong, BadText, StrayElement}
+use Rattle.file_grammar.specs.declared.reason.Reason.TheVariants.{ClassRange}
 use Rattle.file_grammar.specs.declared.reason.Reason.TheVariants.{Redefined, NameTwice, ElementLimit, FileLimit}
 use Rattle.file_grammar.specs.declared.fault.Fault.{Fault}
 use Rattle.file_grammar.specs.declared.kind.Kind.{Kind}
@@ -22,8 +23,10 @@ use Rattle.file_grammar.specs.declared.kind.Kind.TheVariants.{Other}
 use Rattle.file_grammar.specs.Structure.{size_of, record_limit}
 use Rattle.file_grammar.specs.Kind.{is_frame_kind}
 use Rattle.file_grammar.specs.Record.{Reading, reading_of}
-use Rattle.file_grammar.specs.Fault.{Here, place, left, told, held, class, kind, structure, load, weight, refusal}
-use Rattle.file_grammar.specs.Fault.{body_fault, here, here_at, same_reason, same_refusal, judged, fault_at, first_of}
+use Rattle.file_grammar.specs.Fault.{Here, place, bytes_there, length_there, entries_before, class, kind, structure}
+use Rattle.file_grammar.specs.Fault.{load, weight, refusal}
+use Rattle.file_grammar.specs.Fault.{body_fault, here, here_at, same_reason, same_refusal, fault_spot, fault_at}
+use Rattle.file_grammar.specs.Fault.{first_of}
 use Rattle.file_grammar.specs.Fault.{reasons}
 use Rattle.file_grammar.specs.Steps.{length_reason, reasons_of, reason_of, refusal_reason, weight_reason}
 use Rattle.file_grammar.proofs.Firsts.{first_of-holds, first_of-passes, first_of-others, first_of-filter}
@@ -35,29 +38,30 @@ use Rattle.file_grammar.proofs.Applying.{applies, unapplied}
 -- Where the length has a reason, it is the first of all.
 pub first_of-cut : (h : Here) (r : Reason) → place h < length h.file → length_reason h.order h.file (place h) ≡ Some r
     → first_of reasons h ≡ Some (fault_at r (place h, 0))
-first_of-cut h r within e = by (length_case (left h) (told h))
+first_of-cut h r within e = by (length_case (bytes_there h) (length_there h))
   where
     same : (x : Reason) → length_reason h.order h.file (place h) ≡ Some x
         → Some (fault_at x (place h, 0)) ≡ Some (fault_at r (place h, 0))
     same x f = ap (λ o. option_map_or (λ x. Some (fault_at x (place h, 0))) o None) (sym f ∙ e)
 
-    uncut : 14 ≤ left h → (14 ≤ told h → told h ≤ record_limit → told h ≤ left h) → judged CutRecord h ≡ None
-    uncut head whole = ap (here h) (is_uncut (left h) (told h) record_limit head whole)
+    uncut : 14 ≤ bytes_there h → (14 ≤ length_there h → length_there h ≤ record_limit → length_there h ≤ bytes_there h)
+        → fault_spot CutRecord h ≡ None
+    uncut head whole = ap (here h) (is_uncut (bytes_there h) (length_there h) record_limit head whole)
 
-    by : LengthCase (left h) (told h) (length_reason h.order h.file (place h))
+    by : LengthCase (bytes_there h) (length_there h) (length_reason h.order h.file (place h))
         → first_of reasons h ≡ Some (fault_at r (place h, 0))
     by (inl c) =
         first_of-holds CutRecord (drop 1 reasons) h (place h, 0)
-        (ap (here h) (is_cut (left h) (told h) record_limit c.1)) ∙ same CutRecord c.0
+        (ap (here h) (is_cut (bytes_there h) (length_there h) record_limit c.1)) ∙ same CutRecord c.0
     by (inr (inl c)) =
         first_of-passes CutRecord (drop 1 reasons) h (uncut c.1 (λ more small. absurd (omega (arith, c.2))))
-        ∙ first_of-holds LengthSmall (drop 2 reasons) h (place h, 0) (ap (here h) (lt-ltb (told h) 14 c.2))
+        ∙ first_of-holds LengthSmall (drop 2 reasons) h (place h, 0) (ap (here h) (lt-ltb (length_there h) 14 c.2))
         ∙ same LengthSmall c.0
     by (inr (inr (inl c))) =
         first_of-passes CutRecord (drop 1 reasons) h (uncut c.1 (λ more small. absurd (omega (arith, c.2))))
-        ∙ first_of-passes LengthSmall (drop 2 reasons) h (ap (here h) (le-ltb (told h) 14 (omega (arith, c.2))))
+        ∙ first_of-passes LengthSmall (drop 2 reasons) h (ap (here h) (le-ltb (length_there h) 14 (omega (arith, c.2))))
         ∙ first_of-holds RecordLimit (drop 3 reasons) h (place h, 0)
-        (ap (here h) (or_left _ _ (lt-ltb record_limit (told h) c.2)))
+        (ap (here h) (or_left _ _ (lt-ltb record_limit (length_there h) c.2)))
         ∙ same RecordLimit c.0
     by (inr (inr (inr c))) = cc (c.0, e)
 
@@ -74,7 +78,7 @@ first_of-stray h is =
     holds : (rs : List Reason) → first_of (StrayElement ∷ rs) h ≡ Some (fault_at StrayElement (place h, 0))
     holds rs =
         first_of-holds StrayElement rs h (place h, 0)
-        (ap (here h) (eq-eqb (class h) 2 (class-FrSE (held h) (class h) is)))
+        (ap (here h) (eq-eqb (class h) 2 (class-FrSE (entries_before h) (class h) is)))
 
 -- The first reason of a whole structure is one of those of its kind.
 pub first_of-kind : (h : Here) → place h < length h.file → length_reason h.order h.file (place h) ≡ None
@@ -181,33 +185,35 @@ le-not_lt a b = by (cases_lt b a)
     by (inr le) = le-leb a b le ∙ ap not (sym (le-ltb b a le))
 
 -- the weight of a record, if it is beyond the limits
-pub first_of-weight : (h : Here) (rs : List Reason) → is_frame_kind (kind h) ≡ true → told h ≤ record_limit
+pub first_of-weight : (h : Here) (rs : List Reason) → is_frame_kind (kind h) ≡ true → length_there h ≤ record_limit
     → first_of (RecordLimit ∷ FrameLimit ∷ rs) h
-    ≡ option_map_or (λ r. Some (fault_at r (place h, 0))) (weight_reason (load h) (told h) (weight h)) (first_of rs h)
+    ≡ option_map_or (λ r. Some (fault_at r (place h, 0))) (weight_reason (load h) (length_there h) (weight h))
+    (first_of rs h)
 first_of-weight h rs frame small =
     (λ i. option_map_or (λ spot. Some (fault_at RecordLimit spot)) (here h (record_test i))
     (option_map_or (λ spot. Some (fault_at FrameLimit spot)) (here h (frame_test i)) (first_of rs h)))
-    ∙ by (nat_lt record_limit (load h + told h)) (nat_lt record_limit (weight h))
+    ∙ by (nat_lt record_limit (load h + length_there h)) (nat_lt record_limit (weight h))
     (nat_lt record_limit (load h + weight h)) (first_of rs h)
   where
-    record_test : (nat_lt record_limit (told h)
-        || (is_frame_kind (kind h) && (nat_le (load h + told h) record_limit && nat_lt record_limit (weight h))))
-        ≡ (not (nat_lt record_limit (load h + told h)) && nat_lt record_limit (weight h))
+    record_test : (nat_lt record_limit (length_there h)
+        || (is_frame_kind (kind h) &&
+        (nat_le (load h + length_there h) record_limit && nat_lt record_limit (weight h))))
+        ≡ (not (nat_lt record_limit (load h + length_there h)) && nat_lt record_limit (weight h))
     record_test =
-        λ i. le-ltb record_limit (told h) small i
-        || (frame i && (le-not_lt (load h + told h) record_limit i && nat_lt record_limit (weight h)))
+        λ i. le-ltb record_limit (length_there h) small i
+        || (frame i && (le-not_lt (load h + length_there h) record_limit i && nat_lt record_limit (weight h)))
 
     frame_test : (is_frame_kind (kind h)
-        && (nat_lt record_limit (load h + told h) || nat_lt record_limit (load h + weight h)))
-        ≡ (nat_lt record_limit (load h + told h) || nat_lt record_limit (load h + weight h))
+        && (nat_lt record_limit (load h + length_there h) || nat_lt record_limit (load h + weight h)))
+        ≡ (nat_lt record_limit (load h + length_there h) || nat_lt record_limit (load h + weight h))
     frame_test =
-        λ i. frame i && (nat_lt record_limit (load h + told h) || nat_lt record_limit (load h + weight h))
+        λ i. frame i && (nat_lt record_limit (load h + length_there h) || nat_lt record_limit (load h + weight h))
 
-    by : (told weight both : Bool) (rest : Option Fault)
-        → option_map_or (λ spot. Some (fault_at RecordLimit spot)) (here h (not told && weight))
-        (option_map_or (λ spot. Some (fault_at FrameLimit spot)) (here h (told || both)) rest)
+    by : (length_there weight both : Bool) (rest : Option Fault)
+        → option_map_or (λ spot. Some (fault_at RecordLimit spot)) (here h (not length_there && weight))
+        (option_map_or (λ spot. Some (fault_at FrameLimit spot)) (here h (length_there || both)) rest)
         ≡ option_map_or (λ r. Some (fault_at r (place h, 0)))
-        (cond told (Some FrameLimit) (cond weight (Some RecordLimit) (cond both (Some FrameLimit) None))) rest
+        (cond length_there (Some FrameLimit) (cond weight (Some RecordLimit) (cond both (Some FrameLimit) None))) rest
     by true weight both rest = refl
     by false true both rest = refl
     by false false true rest = refl
@@ -238,22 +244,24 @@ weight_reason-none before size own le small within =
     ∙ cond-false _ _ _ (le-ltb record_limit own small)
     ∙ cond-false _ _ _ (le-ltb record_limit (before + own) within)
 
-pub first_of-heavy : (h : Here) (rs : List Reason) (r : Reason) → is_frame_kind (kind h) ≡ true → told h ≤ record_limit
-    → weight_reason (load h) (told h) (weight h) ≡ Some r
+pub first_of-heavy : (h : Here) (rs : List Reason) (r : Reason) → is_frame_kind (kind h) ≡ true
+    → length_there h ≤ record_limit
+    → weight_reason (load h) (length_there h) (weight h) ≡ Some r
     → first_of (RecordLimit ∷ FrameLimit ∷ rs) h ≡ Some (fault_at r (place h, 0))
 first_of-heavy h rs r frame small e =
     first_of-weight h rs frame small
     ∙ ap (λ o. option_map_or (λ (r : Reason). Some (fault_at r (place h, 0))) o (first_of rs h)) e
 
-pub first_of-light : (h : Here) (rs : List Reason) → is_frame_kind (kind h) ≡ true → told h ≤ record_limit
-    → weight_reason (load h) (told h) (weight h) ≡ None → first_of (RecordLimit ∷ FrameLimit ∷ rs) h ≡ first_of rs h
+pub first_of-light : (h : Here) (rs : List Reason) → is_frame_kind (kind h) ≡ true → length_there h ≤ record_limit
+    → weight_reason (load h) (length_there h) (weight h) ≡ None
+    → first_of (RecordLimit ∷ FrameLimit ∷ rs) h ≡ first_of rs h
 first_of-light h rs frame small e =
     first_of-weight h rs frame small
     ∙ ap (λ o. option_map_or (λ (r : Reason). Some (fault_at r (place h, 0))) o (first_of rs h)) e
 
 -- the weight of a record whose body does not read is its length
 pub weight-unread : (h : Here) → length_reason h.order h.file (place h) ≡ None
-    → reading_of h.order (held h) (structure h) ≡ None → weight h ≡ told h
+    → reading_of h.order (entries_before h) (structure h) ≡ None → weight h ≡ length_there h
 weight-unread h none unread =
     ap (λ o. option_map_or (λ (r : Reading). 14 + (values_length r.fields r.values + length r.tail)) o
     (size_of (structure h))) unread
@@ -274,13 +282,13 @@ weight_reason-unread before size small =
 
 -- so only the frame's limit is asked for
 pub first_of-unread_weight : (h : Here) (rs : List Reason) → is_frame_kind (kind h) ≡ true
-    → length_reason h.order h.file (place h) ≡ None → reading_of h.order (held h) (structure h) ≡ None
+    → length_reason h.order h.file (place h) ≡ None → reading_of h.order (entries_before h) (structure h) ≡ None
     → first_of (RecordLimit ∷ FrameLimit ∷ rs) h
     ≡ option_map_or (λ r. Some (fault_at r (place h, 0)))
-    (cond (nat_lt record_limit (load h + told h)) (Some FrameLimit) None) (first_of rs h)
+    (cond (nat_lt record_limit (load h + length_there h)) (Some FrameLimit) None) (first_of rs h)
 first_of-unread_weight h rs frame none unread =
-    let small : told h ≤ record_limit = (length-fits h.order h.file (place h) none).small in
+    let small : length_there h ≤ record_limit = (length-fits h.order h.file (place h) none).small in
     first_of-weight h rs frame small
     ∙ ap (λ o. option_map_or (λ (r : Reason). Some (fault_at r (place h, 0))) o (first_of rs h))
-    (ap (weight_reason (load h) (told h)) (weight-unread h none unread)
-    ∙ weight_reason-unread (load h) (told h) small)
+    (ap (weight_reason (load h) (length_there h)) (weight-unread h none unread)
+    ∙ weight_reason-unread (load h) (length_there h) small)

@@ -13,7 +13,7 @@ use Rattle.file_grammar.specs.declared.reason.Reason.TheVariants.{LooseLink, Ope
 use Rattle.file_grammar.specs.declared.reason.Reason.TheVariants.{FrameCount, ByteCount, FileLimit, FramesLimit}
 use Rattle.file_grammar.specs.declared.fault.Fault.{Fault}
 use Rattle.file_grammar.specs.Reason.{number_of}
-use Rattle.file_grammar.specs.Fault.{Here, Spot, judged, fault_at, first_of, reasons}
+use Rattle.file_grammar.specs.Fault.{Here, Spot, fault_spot, fault_at, first_of, reasons}
 use Rattle.file_grammar.specs.Laws.{NamesTheLeastReason}
 
 -- the numbers rise from a number on
@@ -25,7 +25,7 @@ reasons-ascend : Ascend 0 reasons
 reasons-ascend = search (rules, arith)
 
 -- where a reason that may hold is among them
-place_among : (other : Reason) (h : Here) (spot : Spot) → judged other h ≡ Some spot → (i : ℕ)
+place_among : (other : Reason) (h : Here) (spot : Spot) → fault_spot other h ≡ Some spot → (i : ℕ)
     × (slice_get reasons i ≡ Some other)
 place_among CutRecord h spot holds = (0, refl)
 place_among LengthSmall h spot holds = (1, refl)
@@ -68,10 +68,10 @@ at_least (reason ∷ list) low (suc i) other ascend is =
 
 -- the first of a reason and others is its own fault or one of theirs
 first_or_later : (reason other : Reason) (list : List Reason) (h : Here) (fault : Fault) (found : Option Spot)
-    → judged reason h ≡ found
+    → fault_spot reason h ≡ found
     → option_map_or (λ spot. Some (fault_at reason spot)) found (first_of list h) ≡ Some fault
     → number_of reason ≤ number_of other
-    → (judged reason h ≡ None → first_of list h ≡ Some fault → number_of fault.reason ≤ number_of other)
+    → (fault_spot reason h ≡ None → first_of list h ≡ Some fault → number_of fault.reason ≤ number_of other)
     → number_of fault.reason ≤ number_of other
 first_or_later reason other list h fault (Some spot) is named first later =
     let P : Fault → Type 0 = λ f. number_of f.reason ≤ number_of other in
@@ -79,24 +79,24 @@ first_or_later reason other list h fault (Some spot) is named first later =
 first_or_later reason other list h fault None is named first later = later is named
 
 -- what does not hold is no reason that does
-unheld : (reason other : Reason) (h : Here) (spot : Spot) → reason ≡ other → judged reason h ≡ None
-    → judged other h ≡ Some spot → ⊥
+unheld : (reason other : Reason) (h : Here) (spot : Spot) → reason ≡ other → fault_spot reason h ≡ None
+    → fault_spot other h ≡ Some spot → ⊥
 unheld reason other h spot same none some =
-    let P : Reason → Type 0 = λ r. judged r h ≡ None in
+    let P : Reason → Type 0 = λ r. fault_spot r h ≡ None in
     none-some spot (sym (subst P same none) ∙ some)
 
 -- the first that holds has the least number
 least_in : (list : List Reason) (low i : ℕ) (h : Here) (fault : Fault) (other : Reason) (spot : Spot) → Ascend low list
-    → slice_get list i ≡ Some other → first_of list h ≡ Some fault → judged other h ≡ Some spot
+    → slice_get list i ≡ Some other → first_of list h ≡ Some fault → fault_spot other h ≡ Some spot
     → number_of fault.reason ≤ number_of other
 least_in [] low i h fault other spot ascend is named holds = absurd (none-some fault named)
 least_in (reason ∷ list) low zero h fault other spot ascend is named holds =
     let first = at_least (reason ∷ list) (number_of reason) zero other (omega arith, ascend.1) is in
-    first_or_later reason other list h fault (judged reason h) refl named first
+    first_or_later reason other list h fault (fault_spot reason h) refl named first
     (λ none _. absurd (unheld reason other h spot (same_Some reason other is) none holds))
 least_in (reason ∷ list) low (suc i) h fault other spot ascend is named holds =
     let first = at_least (reason ∷ list) (number_of reason) (suc i) other (omega arith, ascend.1) is in
-    first_or_later reason other list h fault (judged reason h) refl named first
+    first_or_later reason other list h fault (fault_spot reason h) refl named first
     (λ _ later. least_in list (number_of reason) i h fault other spot ascend.1 is later holds)
 
 pub least : NamesTheLeastReason

@@ -161,7 +161,8 @@ same_first order n file b (OtherItem s) (OtherItem t) items last left right stan
     ∙ sym right.1.here))
 
 -- nothing may stand where the file is closed
-pub open_item : (order : Order) (file : List ℕ) (b : Before) (item : Item) → MayStand order file b item → b.closed ≡ false
+pub open_item : (order : Order) (file : List ℕ) (b : Before) (item : Item) → MayStand order file b item
+    → b.closed ≡ false
 open_item order file b (EntryItem head run entry) may = may.0
 open_item order file b (OtherItem s) may = may.0
 

@@ -76,7 +76,8 @@ run_at-run (suc n) order file at enough =
     by : (o : Option Element) → element_at order file at ≡ o
         → ((e : Element) → element_at order file at ≡ Some e
         → IsRun order file (end_of (structure_at order file at))
-        (run_at n order file (end_of (structure_at order file at)))) → IsRun order file at (run_at (suc n) order file at)
+        (run_at n order file (end_of (structure_at order file at))))
+        → IsRun order file at (run_at (suc n) order file at)
     by None is others =
         subst (IsRun order file at) (sym (run_at-none (suc n) order file at is))
         (record { elements = tt; ends = ap (element_at order file) (add-zero at) ∙ is })

@@ -7,7 +7,8 @@ use Rattle.std.proofs.lemmas.Bool.{cond-true}
 use Rattle.dictionary.specs.Dictionary.{entry_of}
 use Rattle.file_grammar.specs.declared.reason.Reason.{Reason}
 use Rattle.file_grammar.specs.declared.reason.Reason.TheVariants.{NoLayout, UnreadLayout, InstanceTwice, FrameHTwice}
-use Rattle.file_grammar.specs.declared.reason.Reason.TheVariants.{NoFrameH, LooseLink, OpenFrame, BadClosing, AfterTable}
+use Rattle.file_grammar.specs.declared.reason.Reason.TheVariants.{NoFrameH, LooseLink, OpenFrame, BadClosing}
+use Rattle.file_grammar.specs.declared.reason.Reason.TheVariants.{AfterTable}
 use Rattle.file_grammar.specs.declared.reason.Reason.TheVariants.{FrameCount, ByteCount, FileLimit, FramesLimit}
 use Rattle.file_grammar.specs.declared.kind.Kind.TheVariants.{Other}
 use Rattle.file_grammar.specs.Structure.{end_of, file_limit}
@@ -16,12 +17,13 @@ use Rattle.file_grammar.specs.Kind.{is_closing_kind, is_file_end_kind}
 use Rattle.file_grammar.specs.Record.{first_loose}
 use Rattle.file_grammar.specs.Closing.{closes, field_named}
 use Rattle.file_grammar.specs.MayStand.{frames_limit}
-use Rattle.file_grammar.specs.Fault.{Here, Spot, place, told, held, class, kind, structure, elements, number, fields}
-use Rattle.file_grammar.specs.Fault.{here, here_at, has_twin, has_header, is_empty, judged, fault_at, first_of}
+use Rattle.file_grammar.specs.Fault.{Here, Spot, place, length_there, entries_before, class, kind, structure, elements}
+use Rattle.file_grammar.specs.Fault.{number, fields}
+use Rattle.file_grammar.specs.Fault.{here, here_at, has_twin, has_header, is_empty, fault_spot, fault_at, first_of}
 use Rattle.file_grammar.proofs.Classes.{layout-Other}
 
 -- a reason that is a test holds, or the first of the others is asked for
-pub first_of-test : (reason : Reason) (rs : List Reason) (h : Here) (test : Bool) → judged reason h ≡ here h test
+pub first_of-test : (reason : Reason) (rs : List Reason) (h : Here) (test : Bool) → fault_spot reason h ≡ here h test
     → first_of (reason ∷ rs) h ≡ cond test (Some (fault_at reason (place h, 0))) (first_of rs h)
 first_of-test reason rs h test is =
     ap (λ o. option_map_or (λ (spot : Spot). Some (fault_at reason spot)) o (first_of rs h)) is ∙ by test
@@ -32,7 +34,7 @@ first_of-test reason rs h test is =
     by false = refl
 
 pub first_of-test_at : (reason : Reason) (rs : List Reason) (h : Here) (field : ℕ) (test : Bool)
-    → judged reason h ≡ here_at h field test
+    → fault_spot reason h ≡ here_at h field test
     → first_of (reason ∷ rs) h ≡ cond test (Some (fault_at reason (place h, field))) (first_of rs h)
 first_of-test_at reason rs h field test is =
     ap (λ o. option_map_or (λ (spot : Spot). Some (fault_at reason spot)) o (first_of rs h)) is ∙ by test
@@ -48,40 +50,41 @@ leaves a b is = λ i. is i && b
 
 -- ---- the tests
 
-pub test-NoLayout : (h : Here) → kind h ≡ Other → judged NoLayout h ≡ here h (is_none (entry_of (held h) (class h)))
-test-NoLayout h is = ap (here h) (layout-Other (held h) (class h) is)
+pub test-NoLayout : (h : Here) → kind h ≡ Other
+    → fault_spot NoLayout h ≡ here h (is_none (entry_of (entries_before h) (class h)))
+test-NoLayout h is = ap (here h) (layout-Other (entries_before h) (class h) is)
 
 pub test-UnreadLayout : (h : Here) → is_table_kind (kind h) ≡ false
-    → judged UnreadLayout h ≡ here h (is_none (fields h))
+    → fault_spot UnreadLayout h ≡ here h (is_none (fields h))
 test-UnreadLayout h is = ap (here h) (leaves (not (is_table_kind (kind h))) (is_none (fields h)) (ap not is))
 
 pub test-InstanceTwice : (h : Here) → is_target_kind (kind h) ≡ true
-    → judged InstanceTwice h ≡ here h (has_twin h.before.frame (structure h))
+    → fault_spot InstanceTwice h ≡ here h (has_twin h.before.frame (structure h))
 test-InstanceTwice h is = ap (here h) (leaves (is_target_kind (kind h)) (has_twin h.before.frame (structure h)) is)
 
 pub test-FrameHTwice : (h : Here) → is_header_kind (kind h) ≡ true
-    → judged FrameHTwice h ≡ here h (has_header (held h) h.before.frame)
-test-FrameHTwice h is = ap (here h) (leaves (is_header_kind (kind h)) (has_header (held h) h.before.frame) is)
+    → fault_spot FrameHTwice h ≡ here h (has_header (entries_before h) h.before.frame)
+test-FrameHTwice h is = ap (here h) (leaves (is_header_kind (kind h)) (has_header (entries_before h) h.before.frame) is)
 
 pub test-NoFrameH : (h : Here) → is_end_kind (kind h) ≡ true
-    → judged NoFrameH h ≡ here h (not (has_header (held h) h.before.frame))
-test-NoFrameH h is = ap (here h) (leaves (is_end_kind (kind h)) (not (has_header (held h) h.before.frame)) is)
+    → fault_spot NoFrameH h ≡ here h (not (has_header (entries_before h) h.before.frame))
+test-NoFrameH h is = ap (here h) (leaves (is_end_kind (kind h)) (not (has_header (entries_before h) h.before.frame)) is)
 
 pub test-LooseLink : (h : Here) → is_end_kind (kind h) ≡ true
-    → judged LooseLink h ≡ first_loose h.order (held h) h.before.frame h.before.frame
+    → fault_spot LooseLink h ≡ first_loose h.order (entries_before h) h.before.frame h.before.frame
 test-LooseLink h is = cond-true (is_end_kind (kind h))
-    (first_loose h.order (held h) h.before.frame h.before.frame) None is
+    (first_loose h.order (entries_before h) h.before.frame h.before.frame) None is
 
 pub test-OpenFrame : (h : Here) → is_closing_kind (kind h) ≡ true
-    → judged OpenFrame h ≡ here h (not (is_empty h.before.frame))
+    → fault_spot OpenFrame h ≡ here h (not (is_empty h.before.frame))
 test-OpenFrame h is = ap (here h) (leaves (is_closing_kind (kind h)) (not (is_empty h.before.frame)) is)
 
 pub test-BadClosing : (h : Here) → is_file_end_kind (kind h) ≡ true
-    → judged BadClosing h ≡ here h (not (closes (elements h)))
+    → fault_spot BadClosing h ≡ here h (not (closes (elements h)))
 test-BadClosing h is = ap (here h) (leaves (is_file_end_kind (kind h)) (not (closes (elements h))) is)
 
 pub test-AfterTable : (h : Here) → (is_frame_kind (kind h) || is_table_kind (kind h)) ≡ true
-    → judged AfterTable h ≡ here h h.before.table
+    → fault_spot AfterTable h ≡ here h h.before.table
 test-AfterTable h is = ap (here h) (by h.before.table (is_frame_kind (kind h) || is_table_kind (kind h)) is)
   where
     by : (a b : Bool) → b ≡ true → (a && b) ≡ a
@@ -89,23 +92,23 @@ test-AfterTable h is = ap (here h) (by h.before.table (is_frame_kind (kind h) ||
     by false b e = refl
 
 pub test-FrameCount : (h : Here) → is_file_end_kind (kind h) ≡ true
-    → judged FrameCount h ≡ here_at h (field_named (elements h) (codes "nFrames"))
+    → fault_spot FrameCount h ≡ here_at h (field_named (elements h) (codes "nFrames"))
     (not (number h (codes "nFrames") == h.before.frames))
 test-FrameCount h is =
     ap (here_at h (field_named (elements h) (codes "nFrames")))
     (leaves (is_file_end_kind (kind h)) (not (number h (codes "nFrames") == h.before.frames)) is)
 
 pub test-ByteCount : (h : Here) → is_file_end_kind (kind h) ≡ true
-    → judged ByteCount h ≡ here_at h (field_named (elements h) (codes "nBytes"))
+    → fault_spot ByteCount h ≡ here_at h (field_named (elements h) (codes "nBytes"))
     (not (number h (codes "nBytes") == 0 || number h (codes "nBytes") == end_of (structure h)))
 test-ByteCount h is =
     ap (here_at h (field_named (elements h) (codes "nBytes")))
     (leaves (is_file_end_kind (kind h))
     (not (number h (codes "nBytes") == 0 || number h (codes "nBytes") == end_of (structure h))) is)
 
-pub test-FileLimit : (h : Here) → judged FileLimit h ≡ here h (nat_lt file_limit (place h + told h))
+pub test-FileLimit : (h : Here) → fault_spot FileLimit h ≡ here h (nat_lt file_limit (place h + length_there h))
 test-FileLimit h = refl
 
 pub test-FramesLimit : (h : Here) → is_end_kind (kind h) ≡ true
-    → judged FramesLimit h ≡ here h (nat_le frames_limit h.before.frames)
+    → fault_spot FramesLimit h ≡ here h (nat_le frames_limit h.before.frames)
 test-FramesLimit h is = ap (here h) (leaves (is_end_kind (kind h)) (nat_le frames_limit h.before.frames) is)

@@ -11,7 +11,8 @@ use Rattle.file_grammar.specs.declared.reason.Reason.TheVariants.{ClassRange, Re
 use Rattle.file_grammar.specs.declared.fault.Fault.{Fault}
 use Rattle.file_grammar.specs.Structure.{record_limit}
 use Rattle.file_grammar.specs.Kind.{is_frame_kind}
-use Rattle.file_grammar.specs.Fault.{Here, place, told, kind, load, weight, refusal, body_fault, here, here_at, fault_at}
+use Rattle.file_grammar.specs.Fault.{Here, place, length_there, kind, load, weight, refusal, body_fault, here, here_at}
+use Rattle.file_grammar.specs.Fault.{fault_at}
 use Rattle.file_grammar.specs.Fault.{first_of, reasons}
 use Rattle.file_grammar.specs.Steps.{length_reason, refusal_reason, weight_reason}
 use Rattle.file_grammar.proofs.Judging.{first_of-cut, first_of-bad_body, first_of-good_body, first_of-entry}
@@ -63,34 +64,36 @@ entry-none h rs none =
     by (Some r) e = cc
 
 -- the weight is within the limits
-weights-within : (load told weight : ℕ) → weight_reason load told weight ≡ None → (load + told ≤ record_limit)
+weights-within : (load length_there weight : ℕ) → weight_reason load length_there weight ≡ None
+    → (load + length_there ≤ record_limit)
     × (weight ≤ record_limit) × (load + weight ≤ record_limit)
-weights-within load told weight none =
-    by (nat_lt record_limit (load + told)) (nat_lt record_limit weight) (nat_lt record_limit (load + weight))
+weights-within load length_there weight none =
+    by (nat_lt record_limit (load + length_there)) (nat_lt record_limit weight) (nat_lt record_limit (load + weight))
     refl refl refl none
   where
-    by : (a b c : Bool) → nat_lt record_limit (load + told) ≡ a → nat_lt record_limit weight ≡ b
+    by : (a b c : Bool) → nat_lt record_limit (load + length_there) ≡ a → nat_lt record_limit weight ≡ b
         → nat_lt record_limit (load + weight) ≡ c
-        → cond {A = Option Reason} a (Some FrameLimit) (cond b (Some RecordLimit) (cond c (Some FrameLimit) None)) ≡ None
-        → (load + told ≤ record_limit) × (weight ≤ record_limit) × (load + weight ≤ record_limit)
+        → cond {A = Option Reason} a (Some FrameLimit) (cond b (Some RecordLimit) (cond c (Some FrameLimit) None))
+        ≡ None
+        → (load + length_there ≤ record_limit) × (weight ≤ record_limit) × (load + weight ≤ record_limit)
     by true b c is_a is_b is_c e = cc
     by false true c is_a is_b is_c e = cc
     by false false true is_a is_b is_c e = cc
     by false false false is_a is_b is_c e = (
-      ltb-false record_limit (load + told) is_a,
+      ltb-false record_limit (load + length_there) is_a,
       ltb-false record_limit weight is_b,
       ltb-false record_limit (load + weight) is_c,
     )
 
-pub weight-none : (h : Here) (rs : List Reason) → is_frame_kind (kind h) ≡ true → told h ≤ record_limit
+pub weight-none : (h : Here) (rs : List Reason) → is_frame_kind (kind h) ≡ true → length_there h ≤ record_limit
     → first_of (RecordLimit ∷ FrameLimit ∷ rs) h ≡ None → (weight h ≤ record_limit) × (load h + weight h ≤ record_limit)
     × (first_of rs h ≡ None)
-weight-none h rs frame small none = by (weight_reason (load h) (told h) (weight h)) refl
+weight-none h rs frame small none = by (weight_reason (load h) (length_there h) (weight h)) refl
   where
-    by : (o : Option Reason) → weight_reason (load h) (told h) (weight h) ≡ o → (weight h ≤ record_limit)
+    by : (o : Option Reason) → weight_reason (load h) (length_there h) (weight h) ≡ o → (weight h ≤ record_limit)
         × (load h + weight h ≤ record_limit) × (first_of rs h ≡ None)
     by None is =
-        let within = weights-within (load h) (told h) (weight h) is in
+        let within = weights-within (load h) (length_there h) (weight h) is in
         (within.1, within.2, sym (first_of-light h rs frame small is) ∙ none)
     by (Some r) is =
         absurd (apart (first_of (RecordLimit ∷ FrameLimit ∷ rs) h) (fault_at r (place h, 0)) none

@@ -20,7 +20,8 @@ use Rattle.layout_plan.specs.BuiltIn.{structure_fields, element_fields}
 use Rattle.file_grammar.specs.declared.reason.Reason.{Reason}
 use Rattle.file_grammar.specs.declared.reason.Reason.TheVariants.{CutHeader, BadHeader, CutRecord, LengthSmall}
 use Rattle.file_grammar.specs.declared.reason.Reason.TheVariants.{RecordLimit, FrameLimit, NoLayout, UnreadLayout}
-use Rattle.file_grammar.specs.declared.reason.Reason.TheVariants.{BodyShort, BodyLong, BadText, StrayElement, ClassRange}
+use Rattle.file_grammar.specs.declared.reason.Reason.TheVariants.{BodyShort, BodyLong, BadText, StrayElement}
+use Rattle.file_grammar.specs.declared.reason.Reason.TheVariants.{ClassRange}
 use Rattle.file_grammar.specs.declared.reason.Reason.TheVariants.{Redefined, NameTwice, ElementLimit, InstanceTwice}
 use Rattle.file_grammar.specs.declared.reason.Reason.TheVariants.{FrameHTwice, NoFrameH, LooseLink, OpenFrame}
 use Rattle.file_grammar.specs.declared.reason.Reason.TheVariants.{BadClosing, AfterTable, NoEnd, FrameCount, ByteCount}
@@ -29,7 +30,8 @@ use Rattle.file_grammar.specs.declared.fault.Fault.{Fault}
 use Rattle.file_grammar.specs.declared.kind.Kind.{Kind}
 use Rattle.file_grammar.specs.declared.kind.Kind.TheVariants.{FrSH, FrSE, FrTOC}
 use Rattle.file_grammar.specs.Structure.{Structure, end_of, record_limit, file_limit, common_at, left_at, structure_at}
-use Rattle.file_grammar.specs.Kind.{kind_of, is_frame_kind, is_target_kind, is_closing_kind, is_header_kind, is_end_kind}
+use Rattle.file_grammar.specs.Kind.{kind_of, is_frame_kind, is_target_kind, is_closing_kind, is_header_kind}
+use Rattle.file_grammar.specs.Kind.{is_end_kind}
 use Rattle.file_grammar.specs.Kind.{is_table_kind, is_file_end_kind}
 use Rattle.file_grammar.specs.Record.{layout_in, values_of, weight_of, first_loose}
 use Rattle.file_grammar.specs.Described.{entry_from}
@@ -47,38 +49,38 @@ pub record Here : Type 0 where
 abbrev pub place : Here → ℕ
 place h = h.before.place
 
-abbrev pub left : Here → ℕ
-left h = left_at h.file (place h)
+abbrev pub bytes_there : Here → ℕ
+bytes_there h = left_at h.file (place h)
 
-abbrev pub told : Here → ℕ
-told h = (common_at h.order h.file (place h)).length
+abbrev pub length_there : Here → ℕ
+length_there h = (common_at h.order h.file (place h)).length
 
 abbrev pub structure : Here → Structure
 structure h = structure_at h.order h.file (place h)
 
-abbrev pub held : Here → List Entry
-held h = h.before.dictionary
+abbrev pub entries_before : Here → List Entry
+entries_before h = h.before.dictionary
 
 -- its class, its kind, and the elements that the dictionary has for it
 abbrev pub class : Here → ℕ
 class h = (structure h).class
 
 abbrev pub kind : Here → Kind
-kind h = kind_of (held h) (class h)
+kind h = kind_of (entries_before h) (class h)
 
 abbrev pub elements : Here → List Element
-elements h = option_map_or (λ e. e.elements) (entry_of (held h) (class h)) []
+elements h = option_map_or (λ e. e.elements) (entry_of (entries_before h) (class h)) []
 
 -- its weight, and that of the frame with it
 abbrev pub weight : Here → ℕ
-weight h = weight_of h.order (held h) (structure h)
+weight h = weight_of h.order (entries_before h) (structure h)
 
 abbrev pub load : Here → ℕ
 load h = h.before.load
 
 -- the number that it tells under a name
 abbrev pub number : Here → List ℕ → ℕ
-number h name = number_named (elements h) (values_of h.order (held h) (structure h)) name
+number h name = number_named (elements h) (values_of h.order (entries_before h) (structure h)) name
 
 -- the layout of a structure's body: FrSH and FrSE have built-in ones, and that of FrTOC is never asked for
 abbrev pub fields_by : Kind → Option (List Field) → Option (List Field)
@@ -88,7 +90,7 @@ fields_by FrTOC found = None
 fields_by kind found = found
 
 abbrev pub fields : Here → Option (List Field)
-fields h = fields_by (kind h) (layout_in (held h) (class h))
+fields h = fields_by (kind h) (layout_in (entries_before h) (class h))
 
 -- the fault of its body
 abbrev pub body_fault : Here → Option BodyFault
@@ -100,7 +102,8 @@ err_of (Ok x) = None
 err_of (Err e) = Some e
 
 abbrev pub refusal_by : Kind → Here → Option AddFault
-refusal_by FrSH h = option_and_then (λ entry. err_of (step (held h) entry)) (entry_from h.order h.file (structure h))
+refusal_by FrSH h = option_and_then (λ entry. err_of (step (entries_before h) entry))
+    (entry_from h.order h.file (structure h))
 refusal_by kind h = None
 
 abbrev pub refusal : Here → Option AddFault
@@ -149,7 +152,7 @@ has_twin frame s = is_some (find (is_twin s) frame)
 
 -- whether the frame has a FrameH
 abbrev pub has_header : List Entry → List Structure → Bool
-has_header held frame = is_some (find (λ t. is_header_kind (kind_of held t.class)) frame)
+has_header entries_before frame = is_some (find (λ t. is_header_kind (kind_of entries_before t.class)) frame)
 
 abbrev pub is_empty : {A : Type 0} → List A → Bool
 is_empty [] = true
@@ -157,40 +160,44 @@ is_empty (x ∷ xs) = false
 
 -- Where a reason holds of what stands at a place, and of which field. A reason counts only where none of a lesser
 -- number holds.
-abbrev pub judged : Reason → Here → Option Spot
-judged CutRecord h = here h
-    (nat_lt (left h) 14 || (nat_le 14 (told h) && (nat_le (told h) record_limit && nat_lt (left h) (told h))))
-judged LengthSmall h = here h (nat_lt (told h) 14)
-judged RecordLimit h = here h
-    (nat_lt record_limit (told h)
-    || (is_frame_kind (kind h) && (nat_le (load h + told h) record_limit && nat_lt record_limit (weight h))))
-judged FrameLimit h = here h
-    (is_frame_kind (kind h) && (nat_lt record_limit (load h + told h) || nat_lt record_limit (load h + weight h)))
-judged NoLayout h = here h (not (class h == 1 || class h == 2) && is_none (entry_of (held h) (class h)))
-judged UnreadLayout h = here h (not (is_table_kind (kind h)) && is_none (fields h))
-judged BodyShort h = here_body h body.BodyShort
-judged BodyLong h = here_body h body.BodyLong
-judged BadText h = here_body h body.BadText
-judged StrayElement h = here h (class h == 2)
-judged ClassRange h = here_entry h add.ClassRange
-judged Redefined h = here_entry h add.Redefined
-judged NameTwice h = here_entry h add.NameTwice
-judged ElementLimit h = here_entry h add.ElementLimit
-judged InstanceTwice h = here h (is_target_kind (kind h) && has_twin h.before.frame (structure h))
-judged FrameHTwice h = here h (is_header_kind (kind h) && has_header (held h) h.before.frame)
-judged NoFrameH h = here h (is_end_kind (kind h) && not (has_header (held h) h.before.frame))
-judged LooseLink h = if is_end_kind (kind h) then first_loose h.order (held h) h.before.frame h.before.frame else None
-judged OpenFrame h = here h (is_closing_kind (kind h) && not (is_empty h.before.frame))
-judged BadClosing h = here h (is_file_end_kind (kind h) && not (closes (elements h)))
-judged AfterTable h = here h (h.before.table && (is_frame_kind (kind h) || is_table_kind (kind h)))
-judged FrameCount h = here_at h (field_named (elements h) (codes "nFrames"))
+abbrev pub fault_spot : Reason → Here → Option Spot
+fault_spot CutRecord h = here h
+    (nat_lt (bytes_there h) 14 ||
+    (nat_le 14 (length_there h) &&
+    (nat_le (length_there h) record_limit && nat_lt (bytes_there h) (length_there h))))
+fault_spot LengthSmall h = here h (nat_lt (length_there h) 14)
+fault_spot RecordLimit h = here h
+    (nat_lt record_limit (length_there h)
+    || (is_frame_kind (kind h) && (nat_le (load h + length_there h) record_limit && nat_lt record_limit (weight h))))
+fault_spot FrameLimit h = here h
+    (is_frame_kind (kind h) &&
+    (nat_lt record_limit (load h + length_there h) || nat_lt record_limit (load h + weight h)))
+fault_spot NoLayout h = here h (not (class h == 1 || class h == 2) && is_none (entry_of (entries_before h) (class h)))
+fault_spot UnreadLayout h = here h (not (is_table_kind (kind h)) && is_none (fields h))
+fault_spot BodyShort h = here_body h body.BodyShort
+fault_spot BodyLong h = here_body h body.BodyLong
+fault_spot BadText h = here_body h body.BadText
+fault_spot StrayElement h = here h (class h == 2)
+fault_spot ClassRange h = here_entry h add.ClassRange
+fault_spot Redefined h = here_entry h add.Redefined
+fault_spot NameTwice h = here_entry h add.NameTwice
+fault_spot ElementLimit h = here_entry h add.ElementLimit
+fault_spot InstanceTwice h = here h (is_target_kind (kind h) && has_twin h.before.frame (structure h))
+fault_spot FrameHTwice h = here h (is_header_kind (kind h) && has_header (entries_before h) h.before.frame)
+fault_spot NoFrameH h = here h (is_end_kind (kind h) && not (has_header (entries_before h) h.before.frame))
+fault_spot LooseLink h =
+    if is_end_kind (kind h) then first_loose h.order (entries_before h) h.before.frame h.before.frame else None
+fault_spot OpenFrame h = here h (is_closing_kind (kind h) && not (is_empty h.before.frame))
+fault_spot BadClosing h = here h (is_file_end_kind (kind h) && not (closes (elements h)))
+fault_spot AfterTable h = here h (h.before.table && (is_frame_kind (kind h) || is_table_kind (kind h)))
+fault_spot FrameCount h = here_at h (field_named (elements h) (codes "nFrames"))
     (is_file_end_kind (kind h) && not (number h (codes "nFrames") == h.before.frames))
-judged ByteCount h = here_at h (field_named (elements h) (codes "nBytes"))
+fault_spot ByteCount h = here_at h (field_named (elements h) (codes "nBytes"))
     (is_file_end_kind (kind h)
     && not (number h (codes "nBytes") == 0 || number h (codes "nBytes") == end_of (structure h)))
-judged FileLimit h = here h (nat_lt file_limit (place h + told h))
-judged FramesLimit h = here h (is_end_kind (kind h) && nat_le frames_limit h.before.frames)
-judged reason h = None
+fault_spot FileLimit h = here h (nat_lt file_limit (place h + length_there h))
+fault_spot FramesLimit h = here h (is_end_kind (kind h) && nat_le frames_limit h.before.frames)
+fault_spot reason h = None
 
 -- the fault of a reason at a spot
 abbrev pub fault_at : Reason → Spot → Fault
@@ -200,7 +207,7 @@ fault_at reason spot = record { at = spot.0; field = spot.1; reason = reason }
 abbrev pub first_of : List Reason → Here → Option Fault
 first_of [] h = None
 first_of (reason ∷ reasons) h =
-    option_map_or (λ spot. Some (fault_at reason spot)) (judged reason h) (first_of reasons h)
+    option_map_or (λ spot. Some (fault_at reason spot)) (fault_spot reason h) (first_of reasons h)
 
 -- the reasons that are judged of what stands at a place, in the order of their numbers
 

@@ -5,7 +5,8 @@ use Rattle.dictionary.specs.declared.entries.Entry.{Entry}
 use Rattle.dictionary.specs.declared.held.AddFault.{AddFault}
 use Rattle.dictionary.specs.Dictionary.{step}
 use Rattle.file_grammar.specs.declared.kind.Kind.{Kind}
-use Rattle.file_grammar.specs.declared.kind.Kind.TheVariants.{FrSH, FrSE, FrameH, FrEndOfFrame, FrTOC, FrEndOfFile, Other}
+use Rattle.file_grammar.specs.declared.kind.Kind.TheVariants.{FrSH, FrSE, FrameH, FrEndOfFrame, FrTOC, FrEndOfFile}
+use Rattle.file_grammar.specs.declared.kind.Kind.TheVariants.{Other}
 use Rattle.file_grammar.specs.Structure.{Structure, size_of, end_of}
 use Rattle.file_grammar.specs.Kind.{kind_of}
 use Rattle.file_grammar.specs.Record.{weight_of}
@@ -41,9 +42,12 @@ dictionary_after held entry = dictionary_by held (step held entry)
 
 -- after a structure of a kind, which has a weight: a record joins the frame, and the end record ends it
 abbrev pub after_kind : Kind → Before → Structure → ℕ → Before
-after_kind FrameH b s weight = record b { place = end_of s; frame = b.frame ++ s ∷ []; load = b.load + weight; records = b.records + 1 }
-after_kind Other b s weight = record b { place = end_of s; frame = b.frame ++ s ∷ []; load = b.load + weight; records = b.records + 1 }
-after_kind FrEndOfFrame b s weight = record b { place = end_of s; frame = []; load = 0; frames = b.frames + 1; records = b.records + 1 }
+after_kind FrameH b s weight =
+    record b { place = end_of s; frame = b.frame ++ s ∷ []; load = b.load + weight; records = b.records + 1 }
+after_kind Other b s weight =
+    record b { place = end_of s; frame = b.frame ++ s ∷ []; load = b.load + weight; records = b.records + 1 }
+after_kind FrEndOfFrame b s weight =
+    record b { place = end_of s; frame = []; load = 0; frames = b.frames + 1; records = b.records + 1 }
 after_kind FrTOC b s weight = record b { place = end_of s; table = true }
 after_kind FrEndOfFile b s weight = record b { place = end_of s; closed = true }
 after_kind FrSH b s weight = record b { place = end_of s }

@@ -6,7 +6,7 @@ use Rattle.file_grammar.specs.declared.fault.Fault.{Fault}
 use Rattle.file_grammar.specs.Reason.{number_of}
 use Rattle.file_grammar.specs.Item.{Item, Before}
 use Rattle.file_grammar.specs.MayStand.{MayStand, Begins, IsWellFormed}
-use Rattle.file_grammar.specs.Fault.{Here, Spot, judged, reasons, first_of, fault_here, IsItemFault}
+use Rattle.file_grammar.specs.Fault.{Here, Spot, fault_spot, reasons, first_of, fault_here, IsItemFault}
 use Rattle.file_grammar.specs.Fault.{IsFirstFault}
 
 -- a file is well-formed
@@ -47,7 +47,7 @@ ItemsBeforeFaultsAreUnique =
 abbrev pub NamesTheLeastReason : Type 0
 NamesTheLeastReason =
     (h : Here) (fault : Fault) (other : Reason) (spot : Spot) → first_of reasons h ≡ Some fault
-    → judged other h ≡ Some spot → number_of fault.reason ≤ number_of other
+    → fault_spot other h ≡ Some spot → number_of fault.reason ≤ number_of other
 
 -- The items before a fault are the longest list of items that each may stand: no further item may.
 abbrev pub NoItemStandsAtAFault : Type 0

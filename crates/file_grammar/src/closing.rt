@@ -18,8 +18,8 @@ pub const BYTES: &[u8] = b"nBytes";
 /// The field that tells how many bytes before the file's end its contents table begins, or 0.
 pub const TABLE: &[u8] = b"seekTOC";
 
-/// Whether elements are a layout of FrEndOfFile: none has a dimension, and the first elements of the three names are whole
-/// numbers of the widths that they have to have.
+/// Whether elements are a layout of FrEndOfFile: none has a dimension, and the first elements of the three names are
+/// whole numbers of the widths that they have to have.
 pub fn closes(elements: &[Element]) -> bool
     ensures { result ≡ closes elements.now }
 {

@@ -1,5 +1,5 @@
-//! The laws of well-formed files and first faults. Each is the contract of a function that does nothing: a crate that calls the
-//! function has the law.
+//! The laws of well-formed files and first faults. Each is the contract of a function that does nothing: a crate that
+//! calls the function has the law.
 
 ghost use Rattle.file_grammar.specs.Laws.{EachFileIsJudged, NoFileIsBoth, FaultsAreUnique};
 ghost use Rattle.file_grammar.specs.Laws.{ItemsAreUnique, NoPrefixIsWellFormed, ItemsBeforeFaultsAreUnique};

@@ -50,8 +50,8 @@ row_of order held nodes r = record {
   links = map (target_of nodes) (links_in (values_in order held r));
 }
 
--- The frame of these records and end record, by the entries held. Its roots are the head, and then the static data in file
--- order.
+-- The frame of these records and end record, by the entries held. Its roots are the head, and then the static data in
+-- file order.
 abbrev pub frame_by : Order → List Entry → List Bodied → Option Bodied → Frame
 frame_by order held nodes end_record = record {
   rows = map (row_of order held nodes) nodes;

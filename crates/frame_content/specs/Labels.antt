@@ -2,17 +2,17 @@
 use Rattle.std.specs.Prelude.{List, [], map, Option}
 use Rattle.std.specs.Option.{option_map_or}
 use Rattle.type_text.specs.declared.types.Link.{Link}
-use Rattle.type_text.specs.TypeText.{printed}
+use Rattle.type_text.specs.TypeText.{printed_type}
 use Rattle.record_values.specs.declared.values.Value.{Value}
 use Rattle.record_values.specs.Links.{links_of, linked_value}
 use Rattle.dictionary.specs.declared.entries.Element.{Element}
 use Rattle.dictionary.specs.declared.entries.Entry.{Entry}
-use Rattle.layout_plan.specs.Written.{cleared}
+use Rattle.layout_plan.specs.Written.{with_sums_cleared}
 use Rattle.file_grammar.specs.Record.{Reading}
 
 -- an entry as it is written again: the text of each type is the printed one
 abbrev pub printed_element : Element → Element
-printed_element e = record e { text = option_map_or printed e.ty e.text }
+printed_element e = record e { text = option_map_or printed_type e.ty e.text }
 
 abbrev pub printed_entry : Entry → Entry
 printed_entry e = record e { elements = map printed_element e.elements }
@@ -42,7 +42,7 @@ no_label = record { entry = no_entry; values = [] }
 
 -- the values of a label by what a body holds
 abbrev pub label_values : Reading → List Value
-label_values reading = cleared reading.fields (map unlinked reading.values)
+label_values reading = with_sums_cleared reading.fields (map unlinked reading.values)
 
 -- the label by an entry and what a body holds; a body that does not read has no values
 abbrev pub label_by : Option Entry → Option Reading → Label

@@ -5,7 +5,8 @@ use Rattle.scalar_types.specs.declared.Order.{Order}
 use Rattle.frame_head.specs.Structure.{common_of}
 
 -- 14 bytes or more say what all of them say
-pub common_of-take : (order : Order) (n : ℕ) (bytes : List ℕ) → 14 ≤ n → common_of order (take n bytes) ≡ common_of order bytes
+pub common_of-take : (order : Order) (n : ℕ) (bytes : List ℕ) → 14 ≤ n
+    → common_of order (take n bytes) ≡ common_of order bytes
 common_of-take order n bytes enough =
     let split : n ≡ 10 + (n - 10) = omega arith in
     let length = take-take 8 n bytes (omega arith) in

@@ -4,7 +4,7 @@ use Rattle.std.proofs.Common.{map, Option, Some, IsTrue, refl, sym, ap, ◌∙�
 use Rattle.std.proofs.Math.ListN.{set}
 use Rattle.frame_outside.specs.Shelf.{Reading, Slot, Told, IsSource, IsTarget, is_source, is_target}
 use Rattle.frame_outside.specs.Shelf.{reading_of, reading_at, slot_passed, pass, slot_wrote, write}
-use Rattle.frame_outside.specs.Shelf.{slot_released, released}
+use Rattle.frame_outside.specs.Shelf.{slot_released, without_slot}
 
 pub IsSource-within : {X : Type 0} (seen : X → Slot) (xs : List X) (slot : ℕ) →
     IsSource (map seen xs) slot → slot < length xs
@@ -99,7 +99,7 @@ released_to-none name [] = refl
 released_to-none name (first ∷ others) = refl
 
 pub released_to-all : (name : List ℕ) (n : ℕ) (slots : List Slot) → length slots ≤ n →
-    released_to name n slots ≡ released name slots
+    released_to name n slots ≡ without_slot name slots
 unfolding released_to
 released_to-all name n [] h = refl
 released_to-all name zero (first ∷ others) h = absurd (omega arith)

@@ -6,7 +6,7 @@ use Rattle.std.specs.Option.{option_or}
 use Rattle.std.specs.Result.{is_ok, is_err}
 use Rattle.frame_outside.specs.Counts.{counted_by}
 use Rattle.frame_outside.specs.Shelf.{Files, Outside, Slot, Source, Target, Told, Passes, HandsOut, Opens}
-use Rattle.frame_outside.specs.Shelf.{Makes, Writes, WritesPart, reading_at, pass, write, released}
+use Rattle.frame_outside.specs.Shelf.{Makes, Writes, WritesPart, reading_at, pass, write, without_slot}
 use Rattle.frame_outside.specs.Shelf.{beginning}
 use Rattle.frame_outside.specs.Written.{written_under, AreApart}
 use Rattle.frame_outside.proofs.Counting.{counted_by-zero}
@@ -122,7 +122,7 @@ telling_opens faults more misses taken slot name bytes slots after held rises nu
 
 pub telling_makes : (faults more misses taken slot : ℕ) (name : List ℕ) (slots after : List Slot)
     (held : Files) → faults ≤ more → slot ≡ length slots →
-    after ≡ released name slots ++ Target (Some (record { written = []; name = Some name })) ∷ [] →
+    after ≡ without_slot name slots ++ Target (Some (record { written = []; name = Some name })) ∷ [] →
     Makes (telling faults misses taken slots held) (telling more misses taken after held) name slot
 telling_makes faults more misses taken slot name slots after held rises number given = record {
   faults = rises;

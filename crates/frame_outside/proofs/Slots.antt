@@ -3,7 +3,7 @@
 use Rattle.std.proofs.Common.{◌≡◌, ℕ, zero, suc, ◌+◌, List, [], ◌∷◌, ◌++◌, length, Option, Some, None}
 use Rattle.std.proofs.Common.{option_map, refl, ap, add-zero, add_assoc, sym, subst}
 use Rattle.frame_outside.specs.Shelf.{Reading, Writing, Slot, Source, Target, IsSource, IsTarget}
-use Rattle.frame_outside.specs.Shelf.{reading_at, writing_at, passed, slot_passed, pass, write, released}
+use Rattle.frame_outside.specs.Shelf.{reading_at, writing_at, reading_past, slot_passed, pass, write, without_slot}
 use Rattle.frame_outside.specs.Shelf.{Outside, Opens, Makes, beginning_of, writing_begun}
 
 slot_passed-zero : (slot : Slot) → slot_passed 0 slot ≡ slot
@@ -38,7 +38,7 @@ length-pass (first ∷ others) (suc slot) n = ap (λ k. suc k) (length-pass othe
 
 -- what is told of the slot itself after it gave n bytes
 pub reading_at-pass : (slots : List Slot) (slot n : ℕ) →
-    reading_at (pass slots slot n) slot ≡ option_map (passed n) (reading_at slots slot)
+    reading_at (pass slots slot n) slot ≡ option_map (reading_past n) (reading_at slots slot)
 reading_at-pass [] slot n = refl
 reading_at-pass (Source reading ∷ others) zero n = refl
 reading_at-pass (Target writing ∷ others) zero n = refl
@@ -108,19 +108,19 @@ IsTarget-write (first ∷ others) (suc slot) bytes (suc other) h = IsTarget-writ
 
 -- slots once a file was made, and the slot that writes it
 pub IsSource-made : (name : List ℕ) (slots : List Slot) (made : Slot) (other : ℕ) → IsSource slots other →
-    IsSource (released name slots ++ made ∷ []) other
+    IsSource (without_slot name slots ++ made ∷ []) other
 IsSource-made name [] made other h = cc
 IsSource-made name (Source reading ∷ others) made zero h = h
 IsSource-made name (Target writing ∷ others) made zero h = cc
 IsSource-made name (first ∷ others) made (suc other) h = IsSource-made name others made other h
 
 pub IsTarget-made : (name : List ℕ) (slots : List Slot) (writing : Option Writing) →
-    IsTarget (released name slots ++ Target writing ∷ []) (length slots)
+    IsTarget (without_slot name slots ++ Target writing ∷ []) (length slots)
 IsTarget-made name [] writing = refl
 IsTarget-made name (first ∷ others) writing = IsTarget-made name others writing
 
 pub IsTarget-before : (name : List ℕ) (slots : List Slot) (made : Slot) (other : ℕ) → IsTarget slots other →
-    IsTarget (released name slots ++ made ∷ []) other
+    IsTarget (without_slot name slots ++ made ∷ []) other
 IsTarget-before name [] made other h = cc
 IsTarget-before name (Source reading ∷ others) made zero h = cc
 IsTarget-before name (Target writing ∷ others) made zero h = h
@@ -131,7 +131,7 @@ pub IsTarget-makes : (old new : Outside) (name : List ℕ) (slot : ℕ) → Make
 IsTarget-makes old new name slot makes =
     let P : List Slot → Type 0 = λ slots. IsTarget slots slot in
     let Q : ℕ → Type 0 = λ number. IsTarget
-    (released name old.slots ++ Target (writing_begun old.files name) ∷ []) number in
+    (without_slot name old.slots ++ Target (writing_begun old.files name) ∷ []) number in
     subst P (sym makes.slots) (subst Q (sym makes.number)
     (IsTarget-made name old.slots (writing_begun old.files name)))
 
@@ -159,7 +159,7 @@ reading_at-write (first ∷ others) (suc slot) bytes zero = refl
 reading_at-write (first ∷ others) (suc slot) bytes (suc other) = reading_at-write others slot bytes other
 
 pub reading_at-made : (name : List ℕ) (slots : List Slot) (writing : Option Writing) (other : ℕ) →
-    reading_at (released name slots ++ Target writing ∷ []) other ≡ reading_at slots other
+    reading_at (without_slot name slots ++ Target writing ∷ []) other ≡ reading_at slots other
 reading_at-made name [] writing zero = refl
 reading_at-made name [] writing (suc other) = refl
 reading_at-made name (Source reading ∷ others) writing zero = refl
@@ -189,7 +189,7 @@ writing_at-more (first ∷ others) more zero h = refl
 writing_at-more (first ∷ others) more (suc other) h = writing_at-more others more other h
 
 pub writing_at-made : (name : List ℕ) (slots : List Slot) (writing : Option Writing) →
-    writing_at (released name slots ++ Target writing ∷ []) (length slots) ≡ writing
+    writing_at (without_slot name slots ++ Target writing ∷ []) (length slots) ≡ writing
 writing_at-made name [] writing = refl
 writing_at-made name (first ∷ others) writing = writing_at-made name others writing
 

@@ -6,7 +6,7 @@ use Rattle.std.proofs.lemmas.List.{length-map}
 use Rattle.frame_outside.specs.Counts.{counted_by}
 use Rattle.frame_outside.specs.Shelf.{Target, Told, Passes, Gives, HandsOut, Refuses, GivesFrom, Opens, Makes, Writes}
 use Rattle.frame_outside.specs.Shelf.{WritesPart, reading_at, writing_at, pass, write, slot_passed}
-use Rattle.frame_outside.specs.Shelf.{slot_wrote, released, slot_released, untold, untold_slot}
+use Rattle.frame_outside.specs.Shelf.{slot_wrote, without_slot, slot_released, untold, untold_slot}
 use Rattle.frame_outside.specs.Shelf.{untold_slots}
 use Rattle.frame_outside.proofs.Counting.{counted_by-zero}
 use Rattle.frame_outside.proofs.Kept.{given_slots}
@@ -42,10 +42,10 @@ write-untold writes (x ∷ xs) (suc slot) bytes =
     ap (λ ss. untold_slot (writes x) ∷ ss) (write-untold writes xs slot bytes)
 
 pub release-untold : {A : Type 0} (writes : A → Bool) (xs : List A) (name : List ℕ) →
-    released name (untold_slots writes xs) ≡ untold_slots writes xs
+    without_slot name (untold_slots writes xs) ≡ untold_slots writes xs
 release-untold writes [] name = refl
 release-untold writes (x ∷ xs) name =
-    ap (λ s. s ∷ released name (untold_slots writes xs)) (released-untold (writes x) name)
+    ap (λ s. s ∷ without_slot name (untold_slots writes xs)) (released-untold (writes x) name)
     ∙ ap (λ ss. untold_slot (writes x) ∷ ss) (release-untold writes xs name)
 
 -- one of the open files changed, and not its use

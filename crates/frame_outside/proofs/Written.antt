@@ -9,7 +9,7 @@ use Rattle.std.specs.Str.{bytes_eq}
 use Rattle.std.proofs.lemmas.Slice.Eq.{bytes_eq-Decides}
 use Rattle.frame_outside.specs.Shelf.{Files, Writing, Slot, Source, Target, slot_wrote, write, holding}
 use Rattle.frame_outside.specs.Shelf.{files_written, writing_at, slot_passed, pass, slot_released}
-use Rattle.frame_outside.specs.Shelf.{writing_released, released}
+use Rattle.frame_outside.specs.Shelf.{writing_released, without_slot}
 use Rattle.frame_outside.specs.Written.{written_by, written_under, AreApart}
 use Rattle.frame_outside.proofs.Kept.{map-set-write, map-set-same, map-given}
 
@@ -73,10 +73,10 @@ option_or-cond true x y = refl
 option_or-cond false x y = refl
 
 pub written_under-released : (name q : List ℕ) (slots : List Slot) →
-    written_under (released name slots) q ≡ cond (bytes_eq name q) None (written_under slots q)
+    written_under (without_slot name slots) q ≡ cond (bytes_eq name q) None (written_under slots q)
 written_under-released name q [] = sym (cond_none (bytes_eq name q))
 written_under-released name q (first ∷ others) =
-    ap (λ x. option_or x (written_under (released name others) q)) (written_by-released name q first)
+    ap (λ x. option_or x (written_under (without_slot name others) q)) (written_by-released name q first)
     ∙ ap (option_or (cond (bytes_eq name q) None (written_by first q))) (written_under-released name q others)
     ∙ option_or-cond (bytes_eq name q) (written_by first q) (written_under others q)
 
@@ -85,10 +85,10 @@ apart_case : (b : Bool) (x y : Option (List ℕ)) → (IsSome x → y ≡ None) 
 apart_case true x y apart some = refl
 apart_case false x y apart some = apart some
 
-pub apart-released : (name : List ℕ) (slots : List Slot) → AreApart slots → AreApart (released name slots)
+pub apart-released : (name : List ℕ) (slots : List Slot) → AreApart slots → AreApart (without_slot name slots)
 apart-released name [] apart = apart
 apart-released name (first ∷ others) apart = (
-  λ q some. from_none (written_under (released name others) q) (written_under-released name q others
+  λ q some. from_none (written_under (without_slot name others) q) (written_under-released name q others
       ∙ apart_case (bytes_eq name q) (written_by first q) (written_under others q)
       (λ h. to_none (written_under others q) (apart.0 q h))
       (subst IsSome (written_by-released name q first) some)),
@@ -155,10 +155,10 @@ made_case false true x held h = cc
 
 pub file_made : (name q : List ℕ) (slots : List Slot) (held : Option (List ℕ)) →
     option_or
-    (written_under (released name slots ++ Target (Some (record { written = []; name = Some name })) ∷ [])
+    (written_under (without_slot name slots ++ Target (Some (record { written = []; name = Some name })) ∷ [])
     q) held ≡ cond (bytes_eq name q) (Some []) (option_or (written_under slots q) held)
 file_made name q slots held =
-    ap (λ x. option_or x held) (written_under-given (released name slots) _ q
+    ap (λ x. option_or x held) (written_under-given (without_slot name slots) _ q
     ∙ ap (λ x. option_or x (cond (bytes_eq q name) (Some []) None)) (written_under-released name q slots))
     ∙ made_case (bytes_eq name q) (bytes_eq q name) (written_under slots q) held
     (bytes_eq-sym name q _ _ refl refl)
@@ -173,8 +173,8 @@ made_apart false false x h some = cc
 made_apart false true x h some = cc
 
 pub apart-made : (name : List ℕ) (slots : List Slot) → AreApart slots →
-    AreApart (released name slots ++ Target (Some (record { written = []; name = Some name })) ∷ [])
-apart-made name slots apart = apart-given (released name slots) _ (apart-released name slots apart)
+    AreApart (without_slot name slots ++ Target (Some (record { written = []; name = Some name })) ∷ [])
+apart-made name slots apart = apart-given (without_slot name slots) _ (apart-released name slots apart)
     (λ q some. written_under-released name q slots
     ∙ made_apart (bytes_eq name q) (bytes_eq q name) (written_under slots q)
     (bytes_eq-sym name q _ _ refl refl) some)
@@ -186,7 +186,7 @@ placed_case true x held bytes = refl
 placed_case false x held bytes = refl
 
 pub file_placed : (name q bytes : List ℕ) (slots : List Slot) (held : Option (List ℕ)) →
-    option_or (written_under (released name slots) q) (cond (bytes_eq name q) (Some bytes) held)
+    option_or (written_under (without_slot name slots) q) (cond (bytes_eq name q) (Some bytes) held)
     ≡ cond (bytes_eq name q) (Some bytes) (option_or (written_under slots q) held)
 file_placed name q bytes slots held =
     ap (λ x. option_or x (cond (bytes_eq name q) (Some bytes) held)) (written_under-released name q slots)

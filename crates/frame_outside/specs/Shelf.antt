@@ -6,7 +6,7 @@ use Rattle.std.specs.Prelude.{◌∷◌, ◌++◌, length, map, take, drop, slic
 use Rattle.std.specs.Prelude.{option_map, option_and_then, if◌then◌else◌}
 use Rattle.std.specs.Option.{option_map_or}
 use Rattle.std.specs.Str.{bytes_eq}
-use Rattle.frame_outside.specs.Counts.{counted, counted_by}
+use Rattle.frame_outside.specs.Counts.{next_count, counted_by}
 
 -- the bytes held under each name; None where the name is not held
 abbrev pub Files : Type 0
@@ -64,12 +64,12 @@ abbrev pub IsSource : List Slot → ℕ → Type 0
 IsSource slots slot = IsTrue (is_source (slice_get slots slot))
 
 -- a reading that gave n bytes more
-abbrev pub passed : ℕ → Reading → Reading
-passed n reading = record { opened = reading.opened; at = reading.at + n }
+abbrev pub reading_past : ℕ → Reading → Reading
+reading_past n reading = record { opened = reading.opened; at = reading.at + n }
 
 -- a slot that gave n bytes more
 abbrev pub slot_passed : ℕ → Slot → Slot
-slot_passed n (Source reading) = Source (option_map (passed n) reading)
+slot_passed n (Source reading) = Source (option_map (reading_past n) reading)
 slot_passed n (Target writing) = Target writing
 
 -- the slots after one of them gave n bytes
@@ -107,8 +107,8 @@ slot_released name (Source reading) = Source reading
 slot_released name (Target writing) = Target (option_map (writing_released name) writing)
 
 -- the slots once the file of that name has come from elsewhere: none of them writes it
-abbrev pub released : List ℕ → List Slot → List Slot
-released name slots = map (slot_released name) slots
+abbrev pub without_slot : List ℕ → List Slot → List Slot
+without_slot name slots = map (slot_released name) slots
 
 -- a file at its beginning
 abbrev pub beginning : List ℕ → Reading
@@ -132,7 +132,7 @@ pub record Refuses (old new : Outside) (name : List ℕ) : Type 0 where
   pub faults : old.faults ≤ new.faults
   pub misses : old.misses ≤ new.misses
   pub missed : Told old.files (λ held. new.misses
-      ≡ (if is_none (held name) then counted old.misses else old.misses))
+      ≡ (if is_none (held name) then next_count old.misses else old.misses))
   pub taken : new.taken ≡ old.taken
   pub slots : new.slots ≡ old.slots
   pub files : new.files ≡ old.files
@@ -222,7 +222,7 @@ pub record Makes (old new : Outside) (name : List ℕ) (slot : ℕ) : Type 0 whe
   pub misses : new.misses ≡ old.misses
   pub taken : new.taken ≡ old.taken
   pub number : slot ≡ length old.slots
-  pub slots : new.slots ≡ released name old.slots ++ Target (writing_begun old.files name) ∷ []
+  pub slots : new.slots ≡ without_slot name old.slots ++ Target (writing_begun old.files name) ∷ []
   pub files : new.files ≡ option_map (holding name []) old.files
 
 -- a slot of which nothing is told
@@ -246,5 +246,5 @@ untold is_written faults taken open_files =
     }
 
 -- a shelf that tells nothing and has done nothing
-abbrev pub begun : Outside
-begun = record { faults = 0; misses = 0; taken = 0; slots = []; files = None }
+abbrev pub empty_outside : Outside
+empty_outside = record { faults = 0; misses = 0; taken = 0; slots = []; files = None }

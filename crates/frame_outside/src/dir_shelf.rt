@@ -7,11 +7,11 @@ mod source;
 
 ghost use Rattle.std.specs.Prelude.{◌≡◌, ◌≤◌, ◌^◌, length, map, [], IfOk, OnOk, OnErr, IsErrOf};
 ghost use Rattle.std.specs.Prelude.{None, true, false, max, min, ◌+◌};
-ghost use Rattle.frame_outside.specs.Counts.{Rose, counted, counted_by};
+ghost use Rattle.frame_outside.specs.Counts.{Rose, next_count, counted_by};
 ghost use Rattle.frame_outside.specs.Opened.{is_written};
 ghost use Rattle.frame_outside.specs.Shelf.{Outside, Source, Told, IsSource, IsTarget, Opens};
 ghost use Rattle.frame_outside.specs.Shelf.{Refuses, Makes, Passes, Gives, HandsOut, GivesFrom};
-ghost use Rattle.frame_outside.specs.Shelf.{Writes, WritesPart, reading_at, untold, begun};
+ghost use Rattle.frame_outside.specs.Shelf.{Writes, WritesPart, reading_at, untold, empty_outside};
 
 use crate::traits::{Failed, Shelf, ShelfError};
 use opened::Opened;
@@ -39,7 +39,7 @@ where
 {
     /// A shelf with no slot given and no fault counted.
     pub fn new(rt: &'a R, alloc: Global) -> Self
-        ensures { ⟦<DirShelf<'a, R> as Shelf>⟧.outside result ≡ begun }
+        ensures { ⟦<DirShelf<'a, R> as Shelf>⟧.outside result ≡ empty_outside }
     {
         DirShelf {
             rt,
@@ -51,7 +51,7 @@ where
 
     /// Counts a fault of the system.
     fn fault(&mut self) -> Failed
-        ensures faults { self.new.faults ≡ counted self.old.faults }
+        ensures faults { self.new.faults ≡ next_count self.old.faults }
         ensures taken { self.new.taken ≡ self.old.taken }
         ensures slots { self.new.slots ≡ self.old.slots }
     {

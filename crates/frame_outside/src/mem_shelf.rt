@@ -10,10 +10,10 @@ ghost use Rattle.std.specs.Prelude.{IsTrue, Some, None, option_copied, if◌then
 ghost use Rattle.std.specs.Str.{bytes_eq};
 ghost use Rattle.std.specs.Vec.{vec_len, vec_capacity};
 ghost use Rattle.frame_outside.specs.Calls.{faults_after};
-ghost use Rattle.frame_outside.specs.Counts.{counted, Rose};
+ghost use Rattle.frame_outside.specs.Counts.{next_count, Rose};
 ghost use Rattle.frame_outside.specs.Shelf.{Outside, Told, IsSource, IsTarget, Opens, Refuses};
 ghost use Rattle.frame_outside.specs.Shelf.{Makes, Passes, Gives, HandsOut, GivesFrom, Writes};
-ghost use Rattle.frame_outside.specs.Shelf.{WritesPart, reading_at, released};
+ghost use Rattle.frame_outside.specs.Shelf.{WritesPart, reading_at, without_slot};
 ghost use Rattle.frame_outside.specs.Written.{AreApart, AreApart-prop};
 ghost use Rattle.frame_outside.specs.MemSlot.{slot_of};
 
@@ -70,8 +70,8 @@ impl MemShelf {
     pub fn with_file(&mut self, name: &str, bytes: &[u8]) -> Result<(), AllocError>
         ensures ok { OnOk result ((q : List ℕ) →
             file_of self.new q ≡ (if bytes_eq name.now q then Some bytes.now else file_of self.old q)) }
-        ensures released { OnOk result
-            ((outside_of self.new).slots ≡ released name.now (outside_of self.old).slots) }
+        ensures without_slot { OnOk result
+            ((outside_of self.new).slots ≡ without_slot name.now (outside_of self.old).slots) }
         ensures err { OnErr result ((q : List ℕ) → file_of self.new q ≡ file_of self.old q) }
         ensures kept { OnErr result ((outside_of self.new).slots ≡ (outside_of self.old).slots) }
         ensures others { SameButContent self.old self.new }
@@ -191,7 +191,7 @@ impl Shelf for MemShelf {
         ensures most { IfOk result (λ n. n ≤ most_given self.old) }
         ensures kept { CountsCall self.old self.new }
         ensures fault { OnErr result
-            ((outside_of self.new).faults ≡ counted (outside_of self.old).faults) }
+            ((outside_of self.new).faults ≡ next_count (outside_of self.old).faults) }
         ensures no_fault { OnOk result ((outside_of self.new).faults ≡ (outside_of self.old).faults) }
     {
         if self.calls.count_one() {
@@ -214,7 +214,7 @@ impl Shelf for MemShelf {
         ensures fails { IsErr result ↔ IsTrue (fails_next self.old) }
         ensures calls { CountsCall self.old self.new }
         ensures fault { OnErr result
-            ((outside_of self.new).faults ≡ counted (outside_of self.old).faults) }
+            ((outside_of self.new).faults ≡ next_count (outside_of self.old).faults) }
         ensures no_fault { OnOk result ((outside_of self.new).faults ≡ (outside_of self.old).faults) }
     {
         if self.calls.count_one() {
@@ -238,7 +238,7 @@ impl Shelf for MemShelf {
         ensures most { IfOk result (λ n. n ≤ most_given self.old) }
         ensures kept { CountsCall self.old self.new }
         ensures fault { OnErr result
-            ((outside_of self.new).faults ≡ counted (outside_of self.old).faults) }
+            ((outside_of self.new).faults ≡ next_count (outside_of self.old).faults) }
         ensures no_fault { OnOk result ((outside_of self.new).faults ≡ (outside_of self.old).faults) }
     {
         if self.calls.count_one() {
@@ -312,7 +312,7 @@ impl Shelf for MemShelf {
 
 /// No slot writes the file of that name any more.
 fn release(slots: &mut Vec<MemSlot>, name: &str)
-    ensures slots { map slot_of slots.new.items ≡ released name.now (map slot_of slots.old.items) }
+    ensures slots { map slot_of slots.new.items ≡ without_slot name.now (map slot_of slots.old.items) }
     ensures len { vec_len slots.new ≡ vec_len slots.old }
     ensures capacity { vec_capacity slots.new ≡ vec_capacity slots.old }
 {

@@ -19,7 +19,7 @@ use Rattle.file_grammar.specs.Steps.{item_here}
 use Rattle.file_grammar.proofs.Advance.{moves}
 use Rattle.file_grammar.proofs.Standing.{may-stand}
 use Rattle.frame_content.specs.Frames.{Frame}
-use Rattle.file_content.specs.Stored.{frame_of_kind, frame_ended, brought, frames_in}
+use Rattle.file_content.specs.Stored.{frame_of_kind, frame_ended, structures_brought, frames_in}
 use Rattle.file_content.specs.Contents.{content_frame}
 use Rattle.file_content.proofs.Brought.{frames-push}
 use Rattle.item_reader.specs.Reader.{Faults}
@@ -70,7 +70,7 @@ closing-alone FrEndOfFile b s weight unclosed closes = refl
 closing-alone Other b s weight unclosed closes = refl
 
 closing-brings : (order : Order) (b : Before) (item : Item) → b.closed ≡ false → (after order b item).closed ≡ true
-    → brought frame_ended b item ≡ []
+    → structures_brought frame_ended b item ≡ []
 closing-brings order b (EntryItem head run entry) unclosed closes = refl
 closing-brings order b (OtherItem s) unclosed closes =
     closing-alone (kind_of b.dictionary s.class) b s (weight_of order b.dictionary s) unclosed closes

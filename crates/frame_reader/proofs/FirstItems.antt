@@ -15,7 +15,7 @@ use Rattle.file_grammar.proofs.Headers.{same_order, begins-unfaulted}
 use Rattle.file_grammar.proofs.Chains.{IsEnd, no_item, same_item}
 use Rattle.file_grammar.proofs.OneAnswer.{not_both, faults_unique, items_before_unique, each_judged}
 use Rattle.frame_content.specs.Frames.{Frame}
-use Rattle.file_content.specs.Stored.{brought, brought_in, frame_ended, frames_in}
+use Rattle.file_content.specs.Stored.{structures_brought, brought_in, frame_ended, frames_in}
 use Rattle.file_content.specs.Contents.{content_frame}
 use Rattle.canonical_file.specs.declared.closing.Closing.{Closing}
 use Rattle.canonical_file.specs.Contents.{Content}
@@ -50,8 +50,9 @@ brought_in-append from order b [] more = (brought_in from order b more, refl)
 brought_in-append from order b (item ∷ items) more =
     let later = brought_in-append from order (after order b item) items more in (
       later.0,
-      ap (λ rest. brought from b item ++ rest) later.1
-          ∙ sym (append_assoc (brought from b item) (brought_in from order (after order b item) items) later.0),
+      ap (λ rest. structures_brought from b item ++ rest) later.1
+          ∙ sym (append_assoc (structures_brought from b item)
+          (brought_in from order (after order b item) items) later.0),
     )
 
 -- so do the frames among them

@@ -25,10 +25,10 @@ use Rattle.file_grammar.specs.Kind.{kind_of}
 use Rattle.file_grammar.specs.Item.{Item, EntryItem, OtherItem, Before, after, after_kind, dictionary_after}
 use Rattle.file_grammar.specs.MayStand.{MayStand, KindMayStand, Begins}
 use Rattle.file_grammar.specs.Record.{Reading, layout_in, reading_by, reading_of, weight_of}
-use Rattle.file_grammar.specs.Fault.{Here, structure, held, kind}
+use Rattle.file_grammar.specs.Fault.{Here, structure, entries_before, kind}
 use Rattle.file_grammar.proofs.Bodies.{reading-found}
 use Rattle.frame_content.specs.Frames.{Frame, frame_by, frame_of}
-use Rattle.file_content.specs.Stored.{StoredFrame, brought, frame_ended, frame_of_kind, frames_in}
+use Rattle.file_content.specs.Stored.{StoredFrame, structures_brought, frame_ended, frame_of_kind, frames_in}
 use Rattle.file_content.specs.Contents.{content_frame}
 use Rattle.file_content.proofs.Brought.{frames-push}
 use Rattle.file_content.proofs.GivenKinds.{structure-here, ends-frame}
@@ -260,7 +260,7 @@ told-none FrSE h b s item tells other = refl
 -- and no frame is brought
 none-ends : (file : List ℕ) (before : Reader) (item : Given) (taken : Item)
     → MayStand before.order file before.before taken → Tells (here_of file before) taken item
-    → ((at class : ℕ) → item ≡ given.FrameEnd at class → ⊥) → brought frame_ended before.before taken ≡ []
+    → ((at class : ℕ) → item ≡ given.FrameEnd at class → ⊥) → structures_brought frame_ended before.before taken ≡ []
 none-ends file before item (EntryItem head run entry) may tells other = refl
 none-ends file before item (OtherItem s) may tells other =
     let h : Here = here_of file before in
@@ -322,10 +322,10 @@ unchanged-same es e kept = by (after-gives es e)
 -- so it is of an entry that is given as one that changed nothing
 entry-same : (h : Here) (head : Structure) (run : List Structure) (entry : Entry) (item : Given)
     → Tells h (EntryItem head run entry) item → ((at class : ℕ) → item ≡ given.Entry at class true → ⊥)
-    → dictionary_after (held h) entry ≡ held h
+    → dictionary_after (entries_before h) entry ≡ entries_before h
 entry-same h head run entry (given.Entry at class true) tells unchanged = absurd (unchanged at class refl)
 entry-same h head run entry (given.Entry at class false) tells unchanged =
-    unchanged-same (held h) entry (λ grown. false≢true (tells.2.1 grown))
+    unchanged-same (entries_before h) entry (λ grown. false≢true (tells.2.1 grown))
 entry-same h head run entry (given.Plain at class instance node) tells unchanged = absurd tells
 entry-same h head run entry (given.FrameEnd at class) tells unchanged = absurd tells
 entry-same h head run entry (given.Table at class size) tells unchanged = absurd tells

@@ -5,7 +5,7 @@ ghost use Rattle.std.specs.Prelude.{IfOk, IfErr, OnOk, OnErr, IsTrue};
 ghost use Rattle.frame_outside.specs.Counts.{Rose};
 ghost use Rattle.frame_outside.specs.Shelf.{Told, IsSource, reading_at};
 ghost use Rattle.frame_outside.specs.SlotReader.{DrawsAtMost};
-ghost use Rattle.structure_source.specs.Source.{GoesOn as Passes, drawn};
+ghost use Rattle.structure_source.specs.Source.{GoesOn as Passes, bytes_drawn};
 ghost use Rattle.file_grammar.specs.Structure.{file_limit};
 ghost use Rattle.file_grammar.specs.Fault.{IsHeaderFault};
 ghost use Rattle.frame_content.specs.Frames.{Frame};
@@ -93,7 +93,7 @@ impl FrameReader {
         ensures ahead { OnErr result ((file : List ℕ) (frames : List Frame)
             → file_of (S.outside shelf.old) self.old.reader.position.slot ≡ Some file
             → self.old.reader.before.closed ≡ false → HasGiven file frames self.old
-            → HasLooked file frames (drawn self.new.reader.position)) }
+            → HasLooked file frames (bytes_drawn self.new.reader.position)) }
         ensures on { IfOk result (λ more. IsTrue more → (self.old.reader.before.place < self.new.reader.before.place)
             × (self.new.reader.before.place ≤ file_limit) × (self.new.reader.before.closed ≡ false)) }
         ensures end { result ≡ Ok false → self.new.reader.before.closed ≡ true }

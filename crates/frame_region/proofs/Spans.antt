@@ -5,7 +5,7 @@ use Rattle.std.proofs.lemmas.List.{take-append-le, drop-append-le, take_all, dro
 use Rattle.std.proofs.lemmas.List.{drop_at, take-take}
 use Rattle.std.proofs.Math.Seq.{take-append-add, drop-append-add}
 use Rattle.frame_region.specs.declared.span.Span.{Span}
-use Rattle.frame_region.specs.Region.{Held, IsLive, bytes_of, overwritten, part_of, Gives, KeepsSpans, AreApart}
+use Rattle.frame_region.specs.Region.{Held, IsLive, bytes_of, overwrite_at, part_of, Gives, KeepsSpans, AreApart}
 
 -- bytes put behind are not seen
 named_before : (at n : ℕ) (bytes more : List ℕ) → at + n ≤ length bytes
@@ -44,7 +44,7 @@ put_named bytes piece = ap (take (length piece)) (drop_at bytes piece (length by
 
 -- a piece is written over as many bytes as it has
 pub length-overwritten : (at : ℕ) (piece bytes : List ℕ) → at + length piece ≤ length bytes
-    → length (overwritten at piece bytes) ≡ length bytes
+    → length (overwrite_at at piece bytes) ≡ length bytes
 length-overwritten at piece bytes within =
     omega (
       arith,
@@ -56,13 +56,13 @@ length-overwritten at piece bytes within =
 
 -- what follows the written bytes stays
 behind_written : (at : ℕ) (piece bytes : List ℕ) (from : ℕ) → at + length piece ≤ length bytes
-    → at + length piece ≤ from → drop from (overwritten at piece bytes) ≡ drop from bytes
+    → at + length piece ≤ from → drop from (overwrite_at at piece bytes) ≡ drop from bytes
 behind_written at piece bytes from within behind =
     let front : List ℕ = take at bytes ++ piece in
     let size : length front ≡ at + length piece =
     omega (arith, length-append (take at bytes) piece, length-take at bytes) in
     let rest : ℕ = from - (at + length piece) in
-    let split : overwritten at piece bytes ≡ front ++ drop (at + length piece) bytes =
+    let split : overwrite_at at piece bytes ≡ front ++ drop (at + length piece) bytes =
     sym (append_assoc (take at bytes) piece (drop (at + length piece) bytes)) in
     let place : from ≡ length front + rest = omega (arith, size) in
     ap (drop from) split
@@ -73,7 +73,7 @@ behind_written at piece bytes from within behind =
 
 -- and what stands before them
 before_written : (at : ℕ) (piece bytes : List ℕ) (n : ℕ) → at ≤ length bytes → n ≤ at
-    → take n (overwritten at piece bytes) ≡ take n bytes
+    → take n (overwrite_at at piece bytes) ≡ take n bytes
 before_written at piece bytes n within before =
     take-append-le n (take at bytes) (piece ++ drop (at + length piece) bytes) (omega (arith, length-take at bytes))
     ∙ take-take n at bytes before
@@ -85,15 +85,15 @@ part from n bytes = sym (drop-take from n bytes)
 -- a span apart from the written one names what it named
 pub written_apart : (at : ℕ) (piece bytes : List ℕ) (from n : ℕ) → at + length piece ≤ length bytes
     → (at + length piece ≤ from) ⊎ (from + n ≤ at) →
-    take n (drop from (overwritten at piece bytes)) ≡ take n (drop from bytes)
+    take n (drop from (overwrite_at at piece bytes)) ≡ take n (drop from bytes)
 written_apart at piece bytes from n within (inl behind) = ap (take n) (behind_written at piece bytes from within behind)
 written_apart at piece bytes from n within (inr before) =
-    part from n (overwritten at piece bytes)
+    part from n (overwrite_at at piece bytes)
     ∙ ap (drop from) (before_written at piece bytes (from + n) (omega arith) before) ∙ sym (part from n bytes)
 
 -- the written span names its bytes with the piece written over
 pub written_in : (from n at : ℕ) (piece bytes : List ℕ) → at + length piece ≤ n → from + n ≤ length bytes →
-    take n (drop from (overwritten (from + at) piece bytes)) ≡ overwritten at piece (take n (drop from bytes))
+    take n (drop from (overwrite_at (from + at) piece bytes)) ≡ overwrite_at at piece (take n (drop from bytes))
 written_in from n at piece bytes within span =
     let rest : ℕ = n - (at + length piece) in
     let back : List ℕ = drop (from + at + length piece) bytes in
@@ -104,7 +104,7 @@ written_in from n at piece bytes within span =
     ∙ ap (take rest) (drop-drop (at + length piece) from bytes ∙ ap (λ k. drop k bytes) (omega arith)) in
     let size : length (take at (drop from bytes)) ≡ at =
     omega (arith, length-take at (drop from bytes), length-drop from bytes) in
-    let shown : drop from (overwritten (from + at) piece bytes) ≡ (take at (drop from bytes) ++ piece) ++ back =
+    let shown : drop from (overwrite_at (from + at) piece bytes) ≡ (take at (drop from bytes) ++ piece) ++ back =
     drop-append-le from (take (from + at) bytes) (piece ++ back) (omega (arith, length-take (from + at) bytes))
     ∙ ap (λ xs. xs ++ (piece ++ back)) front
     ∙ sym (append_assoc (take at (drop from bytes)) piece back) in
@@ -120,7 +120,7 @@ written_in from n at piece bytes within span =
 
 -- all spans stay live where a piece is written within the bytes held
 pub live_written : (old new : Held) (from : ℕ) (piece : List ℕ) (span : Span) → from + length piece ≤ length old.bytes
-    → new.bytes ≡ overwritten from piece old.bytes →
+    → new.bytes ≡ overwrite_at from piece old.bytes →
     new.clears ≡ old.clears → IsLive old span → IsLive new span
 live_written old new from piece span within written clears live = record {
   era = live.era ∙ sym clears;
@@ -130,8 +130,8 @@ live_written old new from piece span within written clears live = record {
 -- the span that is written
 pub gives_written : (old new : Held) (span : Span) (at : ℕ) (piece : List ℕ) → IsLive old span
     → at + length piece ≤ span.length →
-    new.bytes ≡ overwritten (span.at + at) piece old.bytes → new.clears ≡ old.clears
-    → Gives new span (overwritten at piece (bytes_of old span))
+    new.bytes ≡ overwrite_at (span.at + at) piece old.bytes → new.clears ≡ old.clears
+    → Gives new span (overwrite_at at piece (bytes_of old span))
 gives_written old new span at piece live within written clears = record {
   live = live_written old new (span.at + at) piece span (omega (arith, live.within)) written clears live;
   bytes_are = ap (λ bytes. take span.length (drop span.at bytes)) written
@@ -141,7 +141,7 @@ gives_written old new span at piece live within written clears = record {
 -- a span apart from the bytes written
 pub others_written : (old new : Held) (span other : Span) (at : ℕ) (piece : List ℕ) → IsLive old span
     → at + length piece ≤ span.length →
-    new.bytes ≡ overwritten (span.at + at) piece old.bytes → AreApart (part_of span at (length piece)) other
+    new.bytes ≡ overwrite_at (span.at + at) piece old.bytes → AreApart (part_of span at (length piece)) other
     → bytes_of new other ≡ bytes_of old other
 others_written old new span other at piece live within written apart =
     ap (λ bytes. take other.length (drop other.at bytes)) written

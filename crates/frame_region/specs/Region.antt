@@ -31,13 +31,13 @@ abbrev pub bytes_of : Held → Span → List ℕ
 bytes_of region span = take span.length (drop span.at region.bytes)
 
 -- bytes with a piece written over those from a place on
-abbrev pub overwritten : ℕ → List ℕ → List ℕ → List ℕ
-overwritten at piece bytes = take at bytes ++ (piece ++ drop (at + length piece) bytes)
+abbrev pub overwrite_at : ℕ → List ℕ → List ℕ → List ℕ
+overwrite_at at piece bytes = take at bytes ++ (piece ++ drop (at + length piece) bytes)
 
 -- a piece written over the bytes held from a place on
 abbrev pub with_written : Held → ℕ → List ℕ → Held
 with_written region at piece = record {
-  bytes = overwritten at piece region.bytes;
+  bytes = overwrite_at at piece region.bytes;
   spare = region.spare;
   clears = region.clears;
 }

@@ -2,7 +2,7 @@
 
 ghost use Rattle.std.specs.Prelude.{◌≡◌, ◌+◌, ◌-◌, ◌^◌, ◌<◌, ◌≤◌, ◌↔◌, [], ◌++◌, length, OnOk, OnErr};
 ghost use Rattle.std.specs.Prelude.{IsErrOf, IsTrue};
-ghost use Rattle.frame_region.specs.Region.{most_bytes, with_piece, with_written, overwritten};
+ghost use Rattle.frame_region.specs.Region.{most_bytes, with_piece, with_written, overwrite_at};
 ghost use Rattle.frame_region.specs.Region.{Held, IsLive, bytes_of, part_of, Gives, AreApart};
 ghost use Rattle.frame_region.specs.Region.{KeepsSpans, KeepsBytes, EndsSpans};
 
@@ -156,7 +156,7 @@ impl Region {
         requires live { IsLive self.old span }
         requires within { at + length piece.now ≤ span.length }
         ensures after { self.new ≡ with_written self.old (span.at + at) piece.now }
-        ensures gives { Gives self.new span (overwritten at piece.now (bytes_of self.old span)) }
+        ensures gives { Gives self.new span (overwrite_at at piece.now (bytes_of self.old span)) }
         ensures live { (other : Span) → IsLive self.old other → IsLive self.new other }
         ensures others { (other : Span) → IsLive self.old other
             → AreApart (part_of span at (length piece.now)) other

@@ -23,7 +23,7 @@ use Rattle.content_compare.specs.Laws.{SameIsDueOfSameContents}
 use Rattle.frame_tool.specs.declared.outcome.Outcome.{Outcome}
 use Rattle.frame_tool.specs.declared.outcome.Outcome.TheVariants.{Done, Same, Usage, Device, NoMemory}
 use Rattle.frame_tool.specs.Words.{Form, SpliceFiles, command_of}
-use Rattle.frame_tool.specs.Outcome.{compared, spliced, stopped}
+use Rattle.frame_tool.specs.Outcome.{comparison_outcome, splice_outcome, splice_error_outcome}
 use Rattle.frame_tool.specs.Due.{Reply, IsCommandDue, IsAnswer, splice_reply}
 use Rattle.frame_tool.specs.Run.{Replies, has_failed}
 use Rattle.frame_tool.specs.Headline.{RunsCopy, CopiesTellContents, CopiesAreDone, CopiesNameFaults}
@@ -42,7 +42,7 @@ held_now to bytes files = by (bytes_eq to to) ((bytes_eq-Decides to to).1 refl)
 record HasCopied (files now : Files) (file to : List ℕ) (outcome : Outcome) : Type 0 where
   pub due : Due
   pub is : IsDue files (file ∷ []) due
-  pub answer : IsAnswer outcome (spliced (answer_of due))
+  pub answer : IsAnswer outcome (splice_outcome (answer_of due))
   pub output : has_failed outcome ≡ false → now to ≡ Some (output_of due)
 
 -- a copy to the file itself is no command, and any other is the splice of one file
@@ -94,7 +94,8 @@ not_to_itself files now file to copied same = by (copied.runs.usage (copy_to fil
     by (inr (inr full)) = cc
 
 -- a copy that is done was to another file
-copied_apart : (files now : Files) (file to : List ℕ) → RunsCopy files now file to Done → HasCopied files now file to Done
+copied_apart : (files now : Files) (file to : List ℕ) → RunsCopy files now file to Done
+    → HasCopied files now file to Done
 copied_apart files now file to copied = by (bytes_eq to file) refl
   where
     by : (same : Bool) → bytes_eq to file ≡ same → HasCopied files now file to Done
@@ -124,7 +125,7 @@ told_apart file to apart = by (bytes_eq to file) refl
 -- ---- copies that are done
 
 -- a splice that stops is not done
-not_done : (error : SpliceError) → stopped error ≡ Done → ⊥
+not_done : (error : SpliceError) → splice_error_outcome error ≡ Done → ⊥
 not_done (splice.Fault file fault) is = cc
 not_done (splice.Clash file class) is = cc
 not_done splice.FramesLimit is = cc
@@ -133,7 +134,7 @@ not_done splice.Device is = cc
 not_done splice.NoMemory is = cc
 
 -- a splice that is due whole is due done
-whole_done : (due : Due) → is_whole due ≡ true → spliced (answer_of due) ≡ Done
+whole_done : (due : Due) → is_whole due ≡ true → splice_outcome (answer_of due) ≡ Done
 whole_done (Writes closing frames) is = refl
 whole_done (Stops error frames) is = absurd cc
 
@@ -145,7 +146,7 @@ record IsWritten (files now : Files) (file to : List ℕ) : Type 0 where
   pub holds : now to ≡ Some (canonical_file closing frames)
 
 written_by : (files now : Files) (file to : List ℕ) (due : Due) → IsDue files (file ∷ []) due
-    → now to ≡ Some (output_of due) → Done ≡ spliced (answer_of due) → IsWritten files now file to
+    → now to ≡ Some (output_of due) → Done ≡ splice_outcome (answer_of due) → IsWritten files now file to
 written_by files now file to (Writes closing frames) is holds done =
     record { closing = closing; frames = frames; is = is; holds = holds }
 written_by files now file to (Stops error frames) is holds done = absurd (not_done error (sym done))
@@ -154,12 +155,12 @@ done_written : (files now : Files) (file to : List ℕ) → RunsCopy files now f
 done_written files now file to copied =
     let has = copied_apart files now file to copied in
     written_by files now file to has.due has.is (has.output refl)
-    (answers_due Done (spliced (answer_of has.due)) (λ no. cc) (λ no. cc) has.answer)
+    (answers_due Done (splice_outcome (answer_of has.due)) (λ no. cc) (λ no. cc) has.answer)
 
 -- ---- copies that are compared
 
 -- the answer of a comparison is that they are the same exactly where that is due
-same_compared : (due : Answer) → compared due ≡ Same → due ≡ Ok comparison.Same
+same_compared : (due : Answer) → comparison_outcome due ≡ Same → due ≡ Ok comparison.Same
 same_compared (Ok comparison.Same) is = refl
 same_compared (Ok (comparison.Different place)) is = absurd cc
 same_compared (Err (compare.Fault file fault)) is = absurd cc
@@ -170,9 +171,9 @@ same_compared (Err compare.NoMemory) is = absurd cc
 compares : SameIsDueOfSameContents → (files others both : Files) (file other bytes ends : List ℕ) (due : Answer)
     → (c d : Content) × IsCopyOf files file c bytes × IsCopyOf others other d ends × ((bytes ≡ ends) ↔ SameContent c d)
     → both file ≡ files file → both other ≡ others other → CompareDue.IsDue both file other due
-    → (bytes ≡ ends) ↔ (compared due ≡ Same)
+    → (bytes ≡ ends) ↔ (comparison_outcome due ≡ Same)
 compares tells files others both file other bytes ends due (c, d, first, second, alike) held also is = (
-  λ equal. ap compared (told.1 (alike.0 equal)),
+  λ equal. ap comparison_outcome (told.1 (alike.0 equal)),
   λ said. alike.1 (told.0 (same_compared due said)),
 )
   where
@@ -199,7 +200,7 @@ copies_tell tells files now others then both file to other also reply one two he
     by : IsWritten files now file to → IsWritten others then other also → (now to ≡ then also) ↔ (reply.outcome ≡ Same)
     by left right =
         held_alike (now to) (then also) (canonical_file left.closing left.frames)
-        (canonical_file right.closing right.frames) reply.outcome (compared due) left.holds right.holds
+        (canonical_file right.closing right.frames) reply.outcome (comparison_outcome due) left.holds right.holds
         (ap (λ (r : Reply). r.outcome) same)
         (compares tells files others both file other (canonical_file left.closing left.frames)
         (canonical_file right.closing right.frames) due
@@ -212,7 +213,7 @@ pub copies_are_done : CopiesAreDone
 copies_are_done files now file to bytes canonical c outcome copied held room apart holds has is short =
     let copy = has_copied files now file to outcome copied (told_apart file to apart) in
     let due = copies-done files file bytes c canonical copy.due holds has is short copy.is in (
-      answers_due outcome (spliced (answer_of copy.due)) held room copy.answer ∙ whole_done copy.due due.1,
+      answers_due outcome (splice_outcome (answer_of copy.due)) held room copy.answer ∙ whole_done copy.due due.1,
       copy.output (not_failed outcome held room) ∙ ap Some due.0,
     )
 
@@ -220,6 +221,7 @@ pub copies_name_faults : CopiesNameFaults
 copies_name_faults files now file to bytes fault frames ordered outcome copied held room apart holds gives order short =
     let copy = has_copied files now file to outcome copied (told_apart file to apart) in
     let due = copies-name-faults files file bytes fault frames ordered copy.due holds gives order short copy.is in (
-      answers_due outcome (spliced (answer_of copy.due)) held room copy.answer ∙ ap (λ d. spliced (answer_of d)) due,
+      answers_due outcome (splice_outcome (answer_of copy.due)) held room copy.answer
+          ∙ ap (λ d. splice_outcome (answer_of d)) due,
       copy.output (not_failed outcome held room) ∙ ap (λ d. Some (output_of d)) due,
     )

@@ -14,7 +14,8 @@ use Rattle.file_grammar.specs.declared.reason.Reason.TheVariants.{CutHeader, Bad
 use Rattle.file_grammar.specs.declared.reason.Reason.TheVariants.{RecordLimit, FileLimit, NoEnd, Trailing}
 use Rattle.file_grammar.specs.declared.fault.Fault.{Fault}
 use Rattle.file_grammar.specs.Structure.{record_limit, file_limit, common_at}
-use Rattle.file_grammar.specs.Fault.{Here, Spot, place, left, told, here, judged, fault_at, first_of, fault_by, reasons}
+use Rattle.file_grammar.specs.Fault.{Here, Spot, place, bytes_there, length_there, here, fault_spot, fault_at, first_of}
+use Rattle.file_grammar.specs.Fault.{fault_by, reasons}
 use Rattle.file_grammar.specs.Fault.{IsHeaderFault as HasHeaderFault, IsItemFault}
 use Rattle.file_grammar.specs.Steps.{length_reason}
 use Rattle.file_grammar.proofs.Firsts.{first_of-holds, first_of-passes}
@@ -49,15 +50,15 @@ accepted_sound file contents are =
 
 -- the first reason that holds is judged at its place and field
 pub first_judged : (rs : List Reason) (h : Here) (fault : Fault) → first_of rs h ≡ Some fault
-    → judged fault.reason h ≡ Some (fault.at, fault.field)
+    → fault_spot fault.reason h ≡ Some (fault.at, fault.field)
 first_judged [] h fault is = absurd (none-some fault is)
-first_judged (reason ∷ rs) h fault is = step (judged reason h) refl (first_judged rs h fault)
+first_judged (reason ∷ rs) h fault is = step (fault_spot reason h) refl (first_judged rs h fault)
   where
-    step : (found : Option Spot) → judged reason h ≡ found
-        → (first_of rs h ≡ Some fault → judged fault.reason h ≡ Some (fault.at, fault.field))
-        → judged fault.reason h ≡ Some (fault.at, fault.field)
+    step : (found : Option Spot) → fault_spot reason h ≡ found
+        → (first_of rs h ≡ Some fault → fault_spot fault.reason h ≡ Some (fault.at, fault.field))
+        → fault_spot fault.reason h ≡ Some (fault.at, fault.field)
     step (Some spot) holds later =
-        let P : Fault → Type 0 = λ f. judged f.reason h ≡ Some (f.at, f.field) in
+        let P : Fault → Type 0 = λ f. fault_spot f.reason h ≡ Some (f.at, f.field) in
         let same : fault_at reason spot ≡ fault =
         same_Some (fault_at reason spot) fault (sym (first_of-holds reason rs h spot holds) ∙ is) in
         subst P same holds
@@ -75,33 +76,36 @@ here-none h true spot not is = cc
 here-none h false spot not is = none-some spot is
 
 -- where a length has a reason, the walk has it
-pub least_of_length : (place left told : ℕ) (reason : Reason) → 0 < left → LengthCase left told (Some reason)
-    → IsLeast place left told reason
-least_of_length place left told reason some (inl (is, cut)) =
-    let P : Reason → Type 0 = IsLeast place left told in
-    subst P (same_Some CutRecord reason (sym is)) (by cut (cases_lt left 14))
+pub least_of_length : (place bytes_there length_there : ℕ) (reason : Reason) → 0 < bytes_there
+    → LengthCase bytes_there length_there (Some reason)
+    → IsLeast place bytes_there length_there reason
+least_of_length place bytes_there length_there reason some (inl (is, cut)) =
+    let P : Reason → Type 0 = IsLeast place bytes_there length_there in
+    subst P (same_Some CutRecord reason (sym is)) (by cut (cases_lt bytes_there 14))
   where
-    by : (left < 14) ⊎ ((14 ≤ told) × (told ≤ record_limit) × (left < told)) → (left < 14) ⊎ (14 ≤ left)
-        → IsLeast place left told CutRecord
-    by cut (inl short) = cut_head place left told some short
-    by (inl short) (inr head) = cut_head place left told some short
-    by (inr long) (inr head) = cut_body place left told head long.0 long.1 long.2
-least_of_length place left told reason some (inr (inl (is, head, small))) =
-    let P : Reason → Type 0 = IsLeast place left told in
-    subst P (same_Some LengthSmall reason (sym is)) (small_length place left told head small)
-least_of_length place left told reason some (inr (inr (inl (is, head, large)))) =
-    let P : Reason → Type 0 = IsLeast place left told in
-    subst P (same_Some RecordLimit reason (sym is)) (large_length place left told head large)
-least_of_length place left told reason some (inr (inr (inr (is, fits)))) = absurd (none-some reason (sym is))
+    by : (bytes_there < 14) ⊎ ((14 ≤ length_there) × (length_there ≤ record_limit) × (bytes_there < length_there))
+        → (bytes_there < 14) ⊎ (14 ≤ bytes_there)
+        → IsLeast place bytes_there length_there CutRecord
+    by cut (inl short) = cut_head place bytes_there length_there some short
+    by (inl short) (inr head) = cut_head place bytes_there length_there some short
+    by (inr long) (inr head) = cut_body place bytes_there length_there head long.0 long.1 long.2
+least_of_length place bytes_there length_there reason some (inr (inl (is, head, small))) =
+    let P : Reason → Type 0 = IsLeast place bytes_there length_there in
+    subst P (same_Some LengthSmall reason (sym is)) (small_length place bytes_there length_there head small)
+least_of_length place bytes_there length_there reason some (inr (inr (inl (is, head, large)))) =
+    let P : Reason → Type 0 = IsLeast place bytes_there length_there in
+    subst P (same_Some RecordLimit reason (sym is)) (large_length place bytes_there length_there head large)
+least_of_length place bytes_there length_there reason some (inr (inr (inr (is, fits)))) =
+    absurd (none-some reason (sym is))
 
 -- the fault is at the place judged, and the walk has it there
 record IsSeen (h : Here) (fault : Fault) : Type 0 where
   pub at : fault.at ≡ place h
   pub field : fault.field ≡ 0
-  pub least : IsLeast (place h) (left h) (told h) fault.reason
+  pub least : IsLeast (place h) (bytes_there h) (length_there h) fault.reason
 
 -- what is too long at a place does not fit there
-long-unfit : (h : Here) (at : ℕ) → header_of (take 40 h.file) ≡ Ok h.order → Fits (left h) (told h)
+long-unfit : (h : Here) (at : ℕ) → header_of (take 40 h.file) ≡ Ok h.order → Fits (bytes_there h) (length_there h)
     → at ≡ place h
     → IsTooLong h.file at → ⊥
 long-unfit h at header fits here long =
@@ -109,20 +113,21 @@ long-unfit h at header fits here long =
     same_order (header_of (take 40 h.file)) long.order h.order long.header header in
     let P : Order → Type 0 = λ o. record_limit < (common_at o h.file at).length in
     let Q : ℕ → Type 0 = λ n. record_limit < (common_at h.order h.file n).length in
-    let beyond : record_limit < told h = subst Q here (subst P orders long.long) in
-    let small : told h ≤ record_limit = fits.small in
+    let beyond : record_limit < length_there h = subst Q here (subst P orders long.long) in
+    let small : length_there h ≤ record_limit = fits.small in
     omega (arith, beyond, small)
 
 -- where a structure of the length stands whole, FileLimit alone is left
 seen_of_fits : (h : Here) (reason : Reason) (spot : Spot) → header_of (take 40 h.file) ≡ Ok h.order
-    → Fits (left h) (told h)
-    → judged reason h ≡ Some spot → IsOfLength h.file spot.0 reason → IsSeen h (fault_at reason spot)
+    → Fits (bytes_there h) (length_there h)
+    → fault_spot reason h ≡ Some spot → IsOfLength h.file spot.0 reason → IsSeen h (fault_at reason spot)
 seen_of_fits h CutHeader spot header fits holds of = absurd (none-some spot holds)
 seen_of_fits h BadHeader spot header fits holds of = absurd (none-some spot holds)
 seen_of_fits h CutRecord spot header fits holds of =
-    absurd (here-none h _ spot (is_uncut (left h) (told h) record_limit fits.head (λ _ _. fits.whole)) holds)
+    absurd (here-none h _ spot
+    (is_uncut (bytes_there h) (length_there h) record_limit fits.head (λ _ _. fits.whole)) holds)
 seen_of_fits h LengthSmall spot header fits holds of =
-    absurd (here-none h _ spot (le-ltb (told h) 14 fits.enough) holds)
+    absurd (here-none h _ spot (le-ltb (length_there h) 14 fits.enough) holds)
 seen_of_fits h RecordLimit spot header fits holds of =
     let same = here-some h _ spot holds in
     absurd (long-unfit h spot.0 header fits (sym (ap (λ (s : Spot). s.0) same.1)) of)
@@ -131,8 +136,8 @@ seen_of_fits h FileLimit spot header fits holds of =
     record {
       at = sym (ap (λ (s : Spot). s.0) same.1);
       field = sym (ap (λ (s : Spot). s.1) same.1);
-      least = far_end (place h) (left h) (told h) fits.enough fits.small fits.whole
-          (ltb-true file_limit (place h + told h) same.0);
+      least = far_end (place h) (bytes_there h) (length_there h) fits.enough fits.small fits.whole
+          (ltb-true file_limit (place h + length_there h) same.0);
     }
 seen_of_fits h _ spot header fits holds of = absurd of
 
@@ -143,10 +148,11 @@ seen_by_length : (h : Here) (fault : Fault) (found : Option Reason)
 seen_by_length h fault (Some reason) is header within first of =
     let same : fault_at reason (place h, 0) ≡ fault =
     same_Some (fault_at reason (place h, 0)) fault (sym (first_of-cut h reason within is) ∙ first) in
-    let P : Option Reason → Type 0 = LengthCase (left h) (told h) in
-    let some : 0 < left h = omega (arith, within) in
+    let P : Option Reason → Type 0 = LengthCase (bytes_there h) (length_there h) in
+    let some : 0 < bytes_there h = omega (arith, within) in
     let least =
-    least_of_length (place h) (left h) (told h) reason some (subst P is (length_case (left h) (told h))) in
+    least_of_length (place h) (bytes_there h) (length_there h) reason some
+    (subst P is (length_case (bytes_there h) (length_there h))) in
     subst (IsSeen h) same (record { at = refl; field = refl; least = least })
 seen_by_length h fault None is header within first of =
     seen_of_fits h fault.reason (fault.at, fault.field) header (length-fits h.order h.file (place h) is)
@@ -183,7 +189,7 @@ place-within file order at walk =
 walk_fault : (h : Here) (fault : Fault) → WalksTo h.file h.order (place h) → IsSeen h fault
     → IsStructureFault h.file fault.at fault.reason
 walk_fault h fault walk seen =
-    let P : ℕ → Type 0 = λ n. IsLeast (place h) n (told h) fault.reason in
+    let P : ℕ → Type 0 = λ n. IsLeast (place h) n (length_there h) fault.reason in
     let Q : ℕ → Type 0 = λ at. IsFault h.order at (drop (place h) h.file) fault.reason in
     let least = subst P (sym (length-drop (place h) h.file)) seen.least in
     record {
@@ -194,7 +200,7 @@ walk_fault h fault walk seen =
       walked = walk.walked;
       place = seen.at ∙ walk.place_is;
       fault = subst Q (sym seen.at)
-          (fault_of_least h.order (place h) (drop (place h) h.file) (told h) fault.reason refl least);
+          (fault_of_least h.order (place h) (drop (place h) h.file) (length_there h) fault.reason refl least);
     }
 
 both_item : (file : List ℕ) (fault : Fault) → IsItemFault file fault → IsOfLength file fault.at fault.reason

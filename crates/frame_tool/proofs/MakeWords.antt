@@ -6,13 +6,15 @@ use Rattle.std.specs.Str.{all_ascii_digits}
 use Rattle.std.specs.Str.Parse.{digits_value}
 use Rattle.file_grammar.specs.Fault.{is_empty}
 use Rattle.frame_tool.specs.Words.{Form, WalkFile, CheckFile, ListFile, SpliceFiles, DumpFile, MakeFile, single}
-use Rattle.frame_tool.specs.Words.{compared, apart, copied, spliced, has_leading_zero, frames_told, made, command_of}
+use Rattle.frame_tool.specs.Words.{same_form, apart, copy_form, splice_form, has_leading_zero, frames_told, make_form}
+use Rattle.frame_tool.specs.Words.{command_of}
 use Rattle.std.specs.List.{list_any}
 
 -- a word tells 100,000 frames at most
 told_few : (word : List ℕ) (n : ℕ) → frames_told word ≡ Some n → n ≤ 100000
 told_few word n is =
-    by (is_empty word || has_leading_zero word || not (all_ascii_digits word)) (leb (digits_value 10 word) 100000) refl is
+    by (is_empty word || has_leading_zero word || not (all_ascii_digits word))
+    (leb (digits_value 10 word) 100000) refl is
   where
     by : (wrong small : Bool) → leb (digits_value 10 word) 100000 ≡ small
         → cond wrong None (cond small (Some (digits_value 10 word)) None) ≡ Some n → n ≤ 100000
@@ -23,7 +25,7 @@ told_few word n is =
         let P : ℕ → Type 0 = λ m. m ≤ 100000 in
         subst P value (leb-true (digits_value 10 word) 100000 room)
 
-made_few : (words : List (List ℕ)) (n : ℕ) (to : List ℕ) → made words ≡ Some (MakeFile n to) → n ≤ 100000
+made_few : (words : List (List ℕ)) (n : ℕ) (to : List ℕ) → make_form words ≡ Some (MakeFile n to) → n ≤ 100000
 made_few [] n to is = absurd cc
 made_few (frames ∷ []) n to is = absurd cc
 made_few (frames ∷ out ∷ []) n to is = by (frames_told frames) refl is
@@ -43,7 +45,7 @@ one_word : (form : List ℕ → Form) (make : Form) (word : Option (List ℕ)) �
 one_word form make None apart is = cc
 one_word form make (Some file) apart is = apart file cc
 
-none_compared : (words : List (List ℕ)) (n : ℕ) (to : List ℕ) → compared words ≡ Some (MakeFile n to) → ⊥
+none_compared : (words : List (List ℕ)) (n : ℕ) (to : List ℕ) → same_form words ≡ Some (MakeFile n to) → ⊥
 none_compared [] n to is = cc
 none_compared (file ∷ []) n to is = cc
 none_compared (file ∷ other ∷ []) n to is = cc
@@ -56,13 +58,13 @@ none_apart out files n to is = by (list_any (bytes_eq out) files) is
     by true same = cc
     by false same = cc
 
-none_copied : (words : List (List ℕ)) (n : ℕ) (to : List ℕ) → copied words ≡ Some (MakeFile n to) → ⊥
+none_copied : (words : List (List ℕ)) (n : ℕ) (to : List ℕ) → copy_form words ≡ Some (MakeFile n to) → ⊥
 none_copied [] n to is = cc
 none_copied (file ∷ []) n to is = cc
 none_copied (file ∷ out ∷ []) n to is = none_apart out (file ∷ []) n to is
 none_copied (file ∷ out ∷ more ∷ others) n to is = cc
 
-none_spliced : (words : List (List ℕ)) (n : ℕ) (to : List ℕ) → spliced words ≡ Some (MakeFile n to) → ⊥
+none_spliced : (words : List (List ℕ)) (n : ℕ) (to : List ℕ) → splice_form words ≡ Some (MakeFile n to) → ⊥
 none_spliced [] n to is = cc
 none_spliced (out ∷ files) n to is = by (is_empty files || leb (2 ^ 32) (length files)) is
   where
@@ -82,11 +84,11 @@ make_read (first ∷ words) n to is =
         → cond walk (option_map WalkFile (single words))
         (cond check (option_map CheckFile (single words))
         (cond list (option_map ListFile (single words))
-        (cond same (compared words)
-        (cond copy (copied words)
-        (cond splice (spliced words)
+        (cond same (same_form words)
+        (cond copy (copy_form words)
+        (cond splice (splice_form words)
         (cond dump (option_map DumpFile (single words))
-        (cond make (made words) None))))))) ≡ Some (MakeFile n to) → n ≤ 100000
+        (cond make (make_form words) None))))))) ≡ Some (MakeFile n to) → n ≤ 100000
     by true check list same copy splice dump make form =
         absurd (one_word WalkFile (MakeFile n to) (single words) (λ file no. cc) form)
     by false true list same copy splice dump make form =

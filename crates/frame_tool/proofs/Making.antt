@@ -5,7 +5,7 @@ use Rattle.std.proofs.lemmas.Slice.Eq.{bytes_eq-Decides}
 use Rattle.std.proofs.lemmas.List.{take_all, take-take, length-take, length-map}
 use Rattle.std.proofs.lemmas.Bool.{cond-true}
 use Rattle.frame_outside.specs.Counts.{Rose}
-use Rattle.frame_outside.specs.Shelf.{Outside, Files, Told, Slot, holding, released}
+use Rattle.frame_outside.specs.Shelf.{Outside, Files, Told, Slot, holding, without_slot}
 use Rattle.frame_outside.specs.Sink.{Output as Printed}
 use Rattle.frame_outside.specs.declared.traits.ShelfError.{ShelfError}
 use Rattle.canonical_writer.specs.declared.writer.Summary.{Summary}
@@ -55,7 +55,8 @@ keeps_slots : (old mid new : Outside) (to : List ℕ) → KeepsSlots old mid to
 keeps_slots old mid new to (inl same) after =
     inl (kept_on (length old.slots) mid.slots new.slots old.slots refl same after)
 keeps_slots old mid new to (inr freed) after =
-    inr (kept_on (length old.slots) mid.slots new.slots (released to old.slots) (length-map old.slots _) freed after)
+    inr (kept_on (length old.slots) mid.slots new.slots (without_slot to old.slots)
+    (length-map old.slots _) freed after)
 
 keeps_files : (old mid new : Outside) (to : List ℕ) → KeepsFiles old mid to → new.files ≡ mid.files
     → KeepsFiles old new to

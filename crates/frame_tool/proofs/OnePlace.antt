@@ -9,7 +9,8 @@ use Rattle.file_grammar.specs.declared.reason.Reason.{Reason}
 use Rattle.file_grammar.specs.declared.reason.Reason.TheVariants.{CutRecord, LengthSmall, RecordLimit, FileLimit}
 use Rattle.file_grammar.specs.declared.reason.Reason.TheVariants.{Trailing}
 use Rattle.file_grammar.specs.declared.fault.Fault.{Fault}
-use Rattle.file_grammar.specs.Fault.{Here, place, left, told, fault_at, first_of, fault_by, reasons, IsItemFault}
+use Rattle.file_grammar.specs.Fault.{Here, place, bytes_there, length_there, fault_at, first_of, fault_by, reasons}
+use Rattle.file_grammar.specs.Fault.{IsItemFault}
 use Rattle.file_grammar.specs.Steps.{length_reason}
 use Rattle.file_grammar.proofs.Headers.{same_order}
 use Rattle.file_grammar.proofs.Judging.{first_of-cut}
@@ -24,14 +25,15 @@ use Rattle.frame_tool.proofs.OneVerdict.{header-unfaulted, no_two_verdicts}
 use Rattle.frame_tool.proofs.Places.{place-between}
 
 -- of a structure that is as long as it tells and within the limit of lengths, FileLimit alone may hold
-far_alone : (place left told : ℕ) (reason : Reason) → Fits left told → Holds reason place left told
+far_alone : (place bytes_there length_there : ℕ) (reason : Reason) → Fits bytes_there length_there
+    → Holds reason place bytes_there length_there
     → reason ≡ FileLimit
-far_alone place left told CutRecord fits (some, inl short) = absurd (omega (arith, fits.head, short))
-far_alone place left told CutRecord fits (some, inr long) = absurd (omega (arith, fits.whole, long.2))
-far_alone place left told LengthSmall fits holds = absurd (omega (arith, fits.enough, holds.1))
-far_alone place left told RecordLimit fits holds = absurd (omega (arith, fits.small, holds.1))
-far_alone place left told FileLimit fits holds = refl
-far_alone place left told _ fits holds = absurd holds
+far_alone place bytes_there length_there CutRecord fits (some, inl short) = absurd (omega (arith, fits.head, short))
+far_alone place bytes_there length_there CutRecord fits (some, inr long) = absurd (omega (arith, fits.whole, long.2))
+far_alone place bytes_there length_there LengthSmall fits holds = absurd (omega (arith, fits.enough, holds.1))
+far_alone place bytes_there length_there RecordLimit fits holds = absurd (omega (arith, fits.small, holds.1))
+far_alone place bytes_there length_there FileLimit fits holds = refl
+far_alone place bytes_there length_there _ fits holds = absurd holds
 
 -- the walk's fault at the place judged
 abbrev HasFault : Here → Reason → Type 0
@@ -44,19 +46,20 @@ by_length : (h : Here) (reason : Reason) (fault : Fault) (found : Option Reason)
 by_length h reason fault (Some other) is within first wrong =
     let same : fault_at other (place h, 0) ≡ fault =
     same_Some (fault_at other (place h, 0)) fault (sym (first_of-cut h other within is) ∙ first) in
-    let P : Option Reason → Type 0 = LengthCase (left h) (told h) in
-    let Q : ℕ → Type 0 = λ n. IsLeast (place h) n (told h) other in
-    let some : 0 < left h = omega (arith, within) in
+    let P : Option Reason → Type 0 = LengthCase (bytes_there h) (length_there h) in
+    let Q : ℕ → Type 0 = λ n. IsLeast (place h) n (length_there h) other in
+    let some : 0 < bytes_there h = omega (arith, within) in
     let least =
-    least_of_length (place h) (left h) (told h) other some (subst P is (length_case (left h) (told h))) in
+    least_of_length (place h) (bytes_there h) (length_there h) other some
+    (subst P is (length_case (bytes_there h) (length_there h))) in
     let named : HasFault h other =
-    fault_of_least h.order (place h) (drop (place h) h.file) (told h) other refl
+    fault_of_least h.order (place h) (drop (place h) h.file) (length_there h) other refl
     (subst Q (sym (length-drop (place h) h.file)) least) in
     inl (same_fault h.order (place h) (drop (place h) h.file) reason other wrong named
     ∙ ap (λ (f : Fault). f.reason) same)
 by_length h reason fault None is within first wrong =
-    let P : ℕ → Type 0 = λ n. Holds reason (place h) n (told h) in
-    inr (inl (far_alone (place h) (left h) (told h) reason (length-fits h.order h.file (place h) is)
+    let P : ℕ → Type 0 = λ n. Holds reason (place h) n (length_there h) in
+    inr (inl (far_alone (place h) (bytes_there h) (length_there h) reason (length-fits h.order h.file (place h) is)
     (subst P (length-drop (place h) h.file) wrong.holds)))
 
 by_end : (closed ends : Bool) (h : Here) (reason : Reason) (fault : Fault)
@@ -67,10 +70,10 @@ by_end true true h reason fault ends within is wrong = absurd (none-some fault i
 by_end true false h reason fault ends within is wrong =
     inr (inr (sym (ap (λ (f : Fault). f.reason) (same_Some (fault_at Trailing (place h, 0)) fault is))))
 by_end false true h reason fault ends within is wrong =
-    let P : ℕ → Type 0 = λ n. Holds reason (place h) n (told h) in
+    let P : ℕ → Type 0 = λ n. Holds reason (place h) n (length_there h) in
     let all : place h ≡ length h.file = eqb-true (place h) (length h.file) ends in
     let none : length (drop (place h) h.file) ≡ 0 = omega (arith, all, length-drop (place h) h.file) in
-    absurd (none-unheld (place h) (told h) reason (subst P none wrong.holds))
+    absurd (none-unheld (place h) (length_there h) reason (subst P none wrong.holds))
 by_end false false h reason fault ends within is wrong =
     let apart = eqb-false (place h) (length h.file) ends in
     by_length h reason fault (length_reason h.order h.file (place h)) refl

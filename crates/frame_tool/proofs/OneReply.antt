@@ -20,7 +20,7 @@ use Rattle.frame_tool.specs.Due.{IsSameDue, IsDumpDue, IsMakeDue, dump_reply, ma
 use Rattle.frame_tool.specs.Due.{AreFit, EachRunHasADueReply, NoRunHasTwoDueReplies}
 use Rattle.frame_tool.specs.Words.{Form, WalkFile, CheckFile, ListFile, SameFiles, SpliceFiles, DumpFile, MakeFile}
 use Rattle.frame_tool.specs.Words.{command_of}
-use Rattle.frame_tool.specs.Outcome.{compared}
+use Rattle.frame_tool.specs.Outcome.{comparison_outcome}
 use Rattle.frame_reader.specs.Gives.{HoldBytes}
 use Rattle.content_compare.specs.Laws.{EachComparisonHasADue, NoComparisonHasTwoDues}
 use Rattle.splicer.proofs.Dues.{no-two-dues, a-due}
@@ -94,12 +94,12 @@ same_due : EachComparisonHasADue → (files : Files) (name other : List ℕ) →
     → (reply : Reply) × IsSameDue name other files reply
 same_due each files name other bytes =
     let due = each files name other bytes in
-    (reply_with (compared due.0), (due.0, due.1, refl))
+    (reply_with (comparison_outcome due.0), (due.0, due.1, refl))
 
 same_dues : NoComparisonHasTwoDues → (files : Files) (name other : List ℕ) (first second : Reply)
     → IsSameDue name other files first → IsSameDue name other files second → first ≡ second
 same_dues alone files name other first second (a, is, left) (b, also, right) =
-    left ∙ ap (λ due. reply_with (compared due)) (alone files name other a b is also) ∙ sym right
+    left ∙ ap (λ due. reply_with (comparison_outcome due)) (alone files name other a b is also) ∙ sym right
 
 -- a dump has a reply that is due, and no two
 dump_due : (held : Option (List ℕ)) → (reply : Reply) × IsDumpDue held reply
@@ -116,7 +116,8 @@ dump_dues (Some file) first second (fault, text, is, left) (other, printed, also
     left ∙ ap (λ f. dump_reply f text) same.0 ∙ ap (dump_reply other) same.1 ∙ sym right
 
 -- so has the making of a file of 100,000 frames at most
-pub sample_contents : (frames : ℕ) → frames ≤ 100000 → (contents : Contents) × AreContents (sample_bytes frames) contents
+pub sample_contents : (frames : ℕ) → frames ≤ 100000 → (contents : Contents)
+    × AreContents (sample_bytes frames) contents
 sample_contents frames few =
     let back = sample-back frames few in
     has-contents (sample_bytes frames) Little back.items back.last back.well_formed

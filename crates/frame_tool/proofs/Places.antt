@@ -25,7 +25,8 @@ use Rattle.file_grammar.specs.Kind.{kind_of, is_end_kind}
 use Rattle.file_grammar.specs.Record.{weight_of, first_loose}
 use Rattle.file_grammar.specs.Item.{Item, EntryItem, OtherItem, Before, after_kind, after}
 use Rattle.file_grammar.specs.MayStand.{Stand}
-use Rattle.file_grammar.specs.Fault.{Here, Spot, place, kind, held, body_fault, refusal, here, here_at, judged, fault_at}
+use Rattle.file_grammar.specs.Fault.{Here, Spot, place, kind, entries_before, body_fault, refusal, here, here_at}
+use Rattle.file_grammar.specs.Fault.{fault_spot, fault_at}
 use Rattle.file_grammar.specs.Fault.{fault_by, reasons, IsItemFault}
 use Rattle.file_grammar.proofs.Advance.{moves}
 use Rattle.file_grammar.proofs.Headers.{same_order}
@@ -132,7 +133,7 @@ at_end h false found spot each is = absurd (none-some spot is)
 
 -- a reason is judged there or before
 judged-within : (reason : Reason) (h : Here) (spot : Spot) → AreBefore (place h) h.before.frame
-    → judged reason h ≡ Some spot
+    → fault_spot reason h ≡ Some spot
     → spot.0 ≤ place h
 judged-within CutRecord h spot before is = at_here h _ spot is
 judged-within LengthSmall h spot before is = at_here h _ spot is
@@ -156,7 +157,7 @@ judged-within FrameHTwice h spot before is = at_here h _ spot is
 judged-within NoFrameH h spot before is = at_here h _ spot is
 judged-within LooseLink h spot before is =
     at_end h (is_end_kind (kind h)) _ spot
-    (at_loose h.order (held h) h.before.frame h.before.frame (place h) spot before) is
+    (at_loose h.order (entries_before h) h.before.frame h.before.frame (place h) spot before) is
 judged-within OpenFrame h spot before is = at_here h _ spot is
 judged-within BadClosing h spot before is = at_here h _ spot is
 judged-within AfterTable h spot before is = at_here h _ spot is

@@ -25,7 +25,8 @@ answer_on outcome said due (inr failed) also = inr failed
 -- ---- what is printed
 
 -- a front of no text is a front of each
-front_of_none : (text : List ℕ) (before after : Printed) → AppendsPrefix before after [] → AppendsPrefix before after text
+front_of_none : (text : List ℕ) (before after : Printed) → AppendsPrefix before after []
+    → AppendsPrefix before after text
 front_of_none text before after front =
     record { count = 0; appends = subst (Appends before after) (take-nil front.count) front.appends }
 

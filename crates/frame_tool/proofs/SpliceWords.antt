@@ -9,7 +9,7 @@ use Rattle.std.proofs.lemmas.Slice.Eq.{bytes_eq-Decides}
 use Rattle.std.specs.List.{list_any}
 use Rattle.file_grammar.specs.Fault.{is_empty}
 use Rattle.frame_tool.specs.Words.{Form, WalkFile, CheckFile, ListFile, SpliceFiles, DumpFile, MakeFile, texts}
-use Rattle.frame_tool.specs.Words.{single, compared, apart, copied, spliced, frames_told, made, command_of}
+use Rattle.frame_tool.specs.Words.{single, same_form, apart, copy_form, splice_form, frames_told, make_form, command_of}
 
 -- A splice that words are: of one file or more, of fewer than 2^32, none of which is the output.
 pub record IsRead (words : List (List ℕ)) (to : List ℕ) (from : List (List ℕ)) : Type 0 where
@@ -36,7 +36,7 @@ read_by words out files to from some few enough is = by (list_any (bytes_eq out)
 
 -- the words after `copy`
 copied_read : (first : List ℕ) (words : List (List ℕ)) (to : List ℕ) (from : List (List ℕ))
-    → copied words ≡ Some (SpliceFiles to from) → IsRead (first ∷ words) to from
+    → copy_form words ≡ Some (SpliceFiles to from) → IsRead (first ∷ words) to from
 copied_read first [] to from is = absurd cc
 copied_read first (file ∷ []) to from is = absurd cc
 copied_read first (file ∷ out ∷ []) to from is =
@@ -50,7 +50,7 @@ some_files (file ∷ files) is = omega arith
 
 -- the words after `splice`
 spliced_read : (first : List ℕ) (words : List (List ℕ)) (to : List ℕ) (from : List (List ℕ))
-    → spliced words ≡ Some (SpliceFiles to from) → IsRead (first ∷ words) to from
+    → splice_form words ≡ Some (SpliceFiles to from) → IsRead (first ∷ words) to from
 spliced_read first [] to from is = absurd cc
 spliced_read first (out ∷ files) to from is = by (is_empty files) (leb (2 ^ 32) (length files)) refl refl is
   where
@@ -71,14 +71,15 @@ one_word form splice (Some file) apart is = apart file cc
 
 -- words that are compared are no splice
 none_compared : (words : List (List ℕ)) (to : List ℕ) (from : List (List ℕ))
-    → compared words ≡ Some (SpliceFiles to from) → ⊥
+    → same_form words ≡ Some (SpliceFiles to from) → ⊥
 none_compared [] to from is = cc
 none_compared (file ∷ []) to from is = cc
 none_compared (file ∷ other ∷ []) to from is = cc
 none_compared (file ∷ other ∷ more ∷ others) to from is = cc
 
 -- words of which a file is made are no splice
-none_made : (words : List (List ℕ)) (to : List ℕ) (from : List (List ℕ)) → made words ≡ Some (SpliceFiles to from) → ⊥
+none_made : (words : List (List ℕ)) (to : List ℕ) (from : List (List ℕ)) → make_form words ≡ Some (SpliceFiles to from)
+    → ⊥
 none_made [] to from is = cc
 none_made (frames ∷ []) to from is = cc
 none_made (frames ∷ out ∷ []) to from is = by (frames_told frames) is
@@ -101,11 +102,11 @@ splice_read (first ∷ words) to from is =
         → cond walk (option_map WalkFile (single words))
         (cond check (option_map CheckFile (single words))
         (cond list (option_map ListFile (single words))
-        (cond same (compared words)
-        (cond copy (copied words)
-        (cond splice (spliced words)
+        (cond same (same_form words)
+        (cond copy (copy_form words)
+        (cond splice (splice_form words)
         (cond dump (option_map DumpFile (single words))
-        (cond make (made words) None))))))) ≡ Some (SpliceFiles to from)
+        (cond make (make_form words) None))))))) ≡ Some (SpliceFiles to from)
         → IsRead (first ∷ words) to from
     by true check list same copy splice dump make form =
         absurd (one_word WalkFile (SpliceFiles to from) (single words) (λ file no. cc) form)

@@ -19,7 +19,7 @@ use Rattle.splicer.specs.Made.{WritesOneFile}
 use Rattle.frame_tool.specs.declared.outcome.Outcome.{Outcome}
 use Rattle.frame_tool.specs.declared.outcome.Outcome.TheVariants.{Done, Device, NoMemory}
 use Rattle.frame_tool.specs.Words.{SpliceFiles}
-use Rattle.frame_tool.specs.Outcome.{line_of, spliced}
+use Rattle.frame_tool.specs.Outcome.{line_of, splice_outcome}
 use Rattle.frame_tool.specs.Due.{splice_reply, IsSpliceDue, IsAnswer, IsAmong, Prints}
 use Rattle.frame_tool.specs.Run.{Replies, has_failed}
 use Rattle.frame_tool.proofs.Said.{replies_said}
@@ -41,14 +41,14 @@ pub record HasSpliced (old new : Outside) (to : List ℕ) (from : List (List ℕ
 
 -- the answer of a splice is one for the splice that is due
 spliced_answer : (result : Result Summary SpliceError) (due : Due) → SpliceDue.IsAnswer result due
-    → IsAnswer (spliced result) (spliced (answer_of due))
-spliced_answer result due (inl same) = inl (ap spliced same)
-spliced_answer result due (inr (inl device)) = inr (inl (ap spliced device))
-spliced_answer result due (inr (inr full)) = inr (inr (ap spliced full))
+    → IsAnswer (splice_outcome result) (splice_outcome (answer_of due))
+spliced_answer result due (inl same) = inl (ap splice_outcome same)
+spliced_answer result due (inr (inl device)) = inr (inl (ap splice_outcome device))
+spliced_answer result due (inr (inr full)) = inr (inr (ap splice_outcome full))
 
 -- the answer of a splice is one of the command's
 spliced_among : (result : Result Summary SpliceError) (to : List ℕ) (from : List (List ℕ))
-    → IfErr result (IsOfInputs (length from)) → IsAmong (spliced result) (Some (SpliceFiles to from))
+    → IfErr result (IsOfInputs (length from)) → IsAmong (splice_outcome result) (Some (SpliceFiles to from))
 spliced_among (Ok summary) to from inputs = tt
 spliced_among (Err (splice.Fault file fault)) to from inputs = inputs
 spliced_among (Err (splice.Clash file class)) to from inputs = inputs
@@ -60,7 +60,7 @@ spliced_among (Err splice.NoMemory) to from inputs = tt
 -- ---- what is written
 
 -- an answer is Device or NoMemory where that of the splice is
-failed_alike : (result : Result Summary SpliceError) → has_failed (spliced result) ≡ SpliceDue.has_failed result
+failed_alike : (result : Result Summary SpliceError) → has_failed (splice_outcome result) ≡ SpliceDue.has_failed result
 failed_alike (Ok summary) = refl
 failed_alike (Err (splice.Fault file fault)) = refl
 failed_alike (Err (splice.Clash file class)) = refl
@@ -100,7 +100,7 @@ leaves_part false files new to whole bytes begun leaves =
 
 -- what a splice leaves is what its answer has to leave
 leaves_on : (result : Result Summary SpliceError) (due : Due) (outcome : Outcome) (files : Files) (new : Option Files)
-    (to : List ℕ) → IsAnswer outcome (spliced result) → SpliceDue.IsAnswer result due
+    (to : List ℕ) → IsAnswer outcome (splice_outcome result) → SpliceDue.IsAnswer result due
     → (is_ok result ≡ true → outcome ≡ Done) → SpliceDue.Leaves files new to result due
     → LeavesFile (has_failed outcome) files new to (is_whole due) (output_of due)
 leaves_on result due outcome files new to (inl same) is done leaves =
@@ -122,7 +122,7 @@ not_ok result error is ok = false≢true (sym (ap is_ok is) ∙ ok)
 -- the splice gave what is to be said, and the line of that was printed
 pub replies_spliced : (old new : Outside) (before after : Printed) (to : List ℕ) (from : List (List ℕ)) (count : ℕ)
     (result : Result Summary SpliceError) (said outcome : Outcome) → HasSpliced old new to from count result
-    → spliced result ≡ said → IsAnswer outcome said → Prints outcome (line_of said) before after
+    → splice_outcome result ≡ said → IsAnswer outcome said → Prints outcome (line_of said) before after
     → (is_ok result ≡ true → outcome ≡ Done)
     → (outcome ≡ Device → Rose old.faults new.faults ⊎ Rose before.faults after.faults)
     → Replies (IsSpliceDue to from) (Some (SpliceFiles to from)) (count + 1) old new before after outcome
@@ -131,12 +131,12 @@ replies_spliced old new before after to from count result said outcome has gave 
     before after said outcome (record {
       line = λ due. refl;
       answer = λ files told due is.
-          let P : Outcome → Type 0 = λ o. IsAnswer o (spliced (answer_of due)) in
+          let P : Outcome → Type 0 = λ o. IsAnswer o (splice_outcome (answer_of due)) in
           subst P gave (spliced_answer result due (has.answer files told due is));
       output = λ files told due is.
           leaves_on result due outcome files new.files to answers_result (has.answer files told due is) done
           (has.leaves files told due is);
-      misses = λ files told rose due is. ap spliced (has.misses files told rose due is);
+      misses = λ files told rose due is. ap splice_outcome (has.misses files told rose due is);
       taken = has.taken;
       among =
           let P : Outcome → Type 0 = λ o. IsAmong o (Some (SpliceFiles to from)) in
@@ -147,7 +147,7 @@ replies_spliced old new before after to from count result said outcome has gave 
       given = omega (arith, has.shelf.given);
     }) answers prints device
   where
-    answers_result : IsAnswer outcome (spliced result)
+    answers_result : IsAnswer outcome (splice_outcome result)
     answers_result =
         let P : Outcome → Type 0 = λ o. IsAnswer outcome o in
         subst P (sym gave) answers

@@ -24,7 +24,7 @@ use Rattle.splicer.specs.Due.{Due, answer_of, is_whole, output_of}
 use Rattle.splicer.specs.Due as SpliceDue
 use Rattle.content_compare.specs.Due.{Answer}
 use Rattle.content_compare.specs.Due as CompareDue
-use Rattle.frame_tool.specs.Outcome.{line_of, compared, spliced}
+use Rattle.frame_tool.specs.Outcome.{line_of, comparison_outcome, splice_outcome}
 use Rattle.frame_tool.specs.Words.{Form, WalkFile, CheckFile, ListFile, SameFiles, SpliceFiles, DumpFile}
 use Rattle.frame_tool.specs.Words.{MakeFile, command_of}
 use Rattle.frame_tool.specs.declared.judgement.Finding.{Finding}
@@ -107,13 +107,13 @@ IsReportDue report = IsFileDue IsFinding (finding_reply report)
 -- the reply that is due to `same`
 abbrev pub IsSameDue : List ℕ → List ℕ → Files → Reply → Type 0
 IsSameDue first second files reply =
-    (due : Answer) × CompareDue.IsDue files first second due × (reply ≡ reply_with (compared due))
+    (due : Answer) × CompareDue.IsDue files first second due × (reply ≡ reply_with (comparison_outcome due))
 
 -- the reply of a splice by what is due of it
 abbrev pub splice_reply : List ℕ → Due → Reply
 splice_reply to due = record {
-  outcome = spliced (answer_of due);
-  text = line_of (spliced (answer_of due));
+  outcome = splice_outcome (answer_of due);
+  text = line_of (splice_outcome (answer_of due));
   output = Bytes to (is_whole due) (output_of due);
 }
 

@@ -27,7 +27,8 @@ pub record RunsCopy (files now : Files) (file to : List ℕ) (outcome : Outcome)
   pub now_are : new.files ≡ Some now
   pub runs : Runs (codes "copy" ∷ file ∷ to ∷ []) old new before after outcome
 
--- Two copies that are done are equal bytes exactly where, over any files that hold both sources, `same` is due of these.
+-- Two copies that are done are equal bytes exactly where, over any files that hold both sources, `same` is due of
+-- these.
 abbrev pub CopiesTellContents : Type 0
 CopiesTellContents =
     (files now others then both : Files) (file to other also : List ℕ) (reply : Reply)

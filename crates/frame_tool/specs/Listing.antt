@@ -17,7 +17,8 @@ kind_name Ser = codes "ser"
 -- the line of a name: its kind, the number of frames that have it, and the name
 abbrev pub name_line : Kind → Listed → List ℕ
 name_line kind listed =
-    kind_name kind ++ (codes " " ++ (decimal (length listed.found) ++ (codes " " ++ (escaped listed.name ++ codes "\n"))))
+    kind_name kind ++ (codes " " ++
+    (decimal (length listed.found) ++ (codes " " ++ (escaped listed.name ++ codes "\n"))))
 
 -- the lines of a kind, in the order in which its names first came
 abbrev pub kind_text : Built → Kind → List ℕ

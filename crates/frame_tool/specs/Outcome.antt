@@ -48,22 +48,22 @@ line_of Device = []
 line_of NoMemory = []
 
 -- the answer of a comparison
-abbrev pub compared : Result Comparison CompareError → Outcome
-compared (Ok comparison.Same) = Same
-compared (Ok (comparison.Different place)) = Different place
-compared (Err (compare.Fault file fault)) = Fault file fault.at fault.field fault.reason
-compared (Err compare.Device) = Device
-compared (Err compare.NoMemory) = NoMemory
+abbrev pub comparison_outcome : Result Comparison CompareError → Outcome
+comparison_outcome (Ok comparison.Same) = Same
+comparison_outcome (Ok (comparison.Different place)) = Different place
+comparison_outcome (Err (compare.Fault file fault)) = Fault file fault.at fault.field fault.reason
+comparison_outcome (Err compare.Device) = Device
+comparison_outcome (Err compare.NoMemory) = NoMemory
 
 -- the answer where a splice was not written whole, and where it was
-abbrev pub stopped : SpliceError → Outcome
-stopped (splice.Fault file fault) = Fault file fault.at fault.field fault.reason
-stopped (splice.Clash file class) = Clash file class
-stopped splice.FramesLimit = FramesLimit
-stopped splice.OutputLimit = OutputLimit
-stopped splice.Device = Device
-stopped splice.NoMemory = NoMemory
+abbrev pub splice_error_outcome : SpliceError → Outcome
+splice_error_outcome (splice.Fault file fault) = Fault file fault.at fault.field fault.reason
+splice_error_outcome (splice.Clash file class) = Clash file class
+splice_error_outcome splice.FramesLimit = FramesLimit
+splice_error_outcome splice.OutputLimit = OutputLimit
+splice_error_outcome splice.Device = Device
+splice_error_outcome splice.NoMemory = NoMemory
 
-abbrev pub spliced : Result Summary SpliceError → Outcome
-spliced (Ok summary) = Done
-spliced (Err error) = stopped error
+abbrev pub splice_outcome : Result Summary SpliceError → Outcome
+splice_outcome (Ok summary) = Done
+splice_outcome (Err error) = splice_error_outcome error

@@ -8,7 +8,8 @@ use Rattle.std.specs.Str.Parse.{digits_value}
 use Rattle.std.specs.String.{string_bytes}
 use Rattle.std.specs.declared.string.String.{String}
 use Rattle.frame_tool.specs.declared.command.Command.{Command}
-use Rattle.frame_tool.specs.declared.command.Command.TheVariants.{Walk, Check, List as ListCommand, Same, Splice, Dump, Make}
+use Rattle.frame_tool.specs.declared.command.Command.TheVariants.{Walk, Check, List as ListCommand, Same, Splice, Dump}
+use Rattle.frame_tool.specs.declared.command.Command.TheVariants.{Make}
 
 -- a command with its words as lists of bytes
 pub data Form : Type 0 where
@@ -39,23 +40,23 @@ single (word ∷ []) = Some word
 single _ = None
 
 -- two words
-abbrev pub compared : List (List ℕ) → Option Form
-compared (first ∷ second ∷ []) = Some (SameFiles first second)
-compared _ = None
+abbrev pub same_form : List (List ℕ) → Option Form
+same_form (first ∷ second ∷ []) = Some (SameFiles first second)
+same_form _ = None
 
 -- the splice of files to one that is none of them
 abbrev pub apart : List ℕ → List (List ℕ) → Option Form
 apart to from = if list_any (bytes_eq to) from then None else Some (SpliceFiles to from)
 
 -- FILE OUT
-abbrev pub copied : List (List ℕ) → Option Form
-copied (file ∷ to ∷ []) = apart to (file ∷ [])
-copied _ = None
+abbrev pub copy_form : List (List ℕ) → Option Form
+copy_form (file ∷ to ∷ []) = apart to (file ∷ [])
+copy_form _ = None
 
 -- OUT FILES: one file or more, fewer than 2^32
-abbrev pub spliced : List (List ℕ) → Option Form
-spliced (to ∷ from) = if is_empty from || nat_le (2 ^ 32) (length from) then None else apart to from
-spliced [] = None
+abbrev pub splice_form : List (List ℕ) → Option Form
+splice_form (to ∷ from) = if is_empty from || nat_le (2 ^ 32) (length from) then None else apart to from
+splice_form [] = None
 
 -- a word with more than one byte that begins with a zero
 abbrev pub has_leading_zero : List ℕ → Bool
@@ -69,9 +70,9 @@ frames_told word =
     else (if nat_le (digits_value 10 word) 100000 then Some (digits_value 10 word) else None)
 
 -- N OUT
-abbrev pub made : List (List ℕ) → Option Form
-made (frames ∷ to ∷ []) = option_map (λ n. MakeFile n to) (frames_told frames)
-made _ = None
+abbrev pub make_form : List (List ℕ) → Option Form
+make_form (frames ∷ to ∷ []) = option_map (λ n. MakeFile n to) (frames_told frames)
+make_form _ = None
 
 -- the command of its first word
 abbrev pub command_named : List ℕ → List (List ℕ) → Option Form
@@ -79,11 +80,11 @@ command_named word words =
     if bytes_eq word (codes "walk") then option_map WalkFile (single words)
     else (if bytes_eq word (codes "check") then option_map CheckFile (single words)
     else (if bytes_eq word (codes "list") then option_map ListFile (single words)
-    else (if bytes_eq word (codes "same") then compared words
-    else (if bytes_eq word (codes "copy") then copied words
-    else (if bytes_eq word (codes "splice") then spliced words
+    else (if bytes_eq word (codes "same") then same_form words
+    else (if bytes_eq word (codes "copy") then copy_form words
+    else (if bytes_eq word (codes "splice") then splice_form words
     else (if bytes_eq word (codes "dump") then option_map DumpFile (single words)
-    else (if bytes_eq word (codes "make") then made words else None)))))))
+    else (if bytes_eq word (codes "make") then make_form words else None)))))))
 
 abbrev pub command_of : List (List ℕ) → Option Form
 command_of [] = None

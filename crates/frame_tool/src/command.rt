@@ -2,7 +2,8 @@
 
 ghost use Rattle.std.specs.Prelude.{◌≡◌, option_map};
 ghost use Rattle.std.specs.Str.{all_ascii_digits};
-ghost use Rattle.frame_tool.specs.Words.{command_of, form_of, single, compared, copied, spliced, apart, made};
+ghost use Rattle.frame_tool.specs.Words.{command_of, form_of, single, same_form, copy_form, splice_form, apart};
+ghost use Rattle.frame_tool.specs.Words.{make_form};
 ghost use Rattle.frame_tool.specs.Words.{frames_told, has_leading_zero, texts};
 
 use sample_file::FRAMES_AT_MOST;
@@ -43,13 +44,13 @@ pub fn read_words(words: &[String]) -> Option<Command<'_>>
         "list" => Some(Command::List {
             file: single(words)?,
         }),
-        "same" => compared(words),
-        "copy" => copied(words),
-        "splice" => spliced(words),
+        "same" => same_form(words),
+        "copy" => copy_form(words),
+        "splice" => splice_form(words),
         "dump" => Some(Command::Dump {
             file: single(words)?,
         }),
-        "make" => made(words),
+        "make" => make_form(words),
         _ => None,
     }
 }
@@ -65,8 +66,8 @@ fn single(words: &[String]) -> Option<&str>
 }
 
 /// `A B`.
-fn compared(words: &[String]) -> Option<Command<'_>>
-    ensures { option_map form_of result ≡ compared (texts words.now) }
+fn same_form(words: &[String]) -> Option<Command<'_>>
+    ensures { option_map form_of result ≡ same_form (texts words.now) }
 {
     match words {
         [first, second] => Some(Command::Same {
@@ -78,8 +79,8 @@ fn compared(words: &[String]) -> Option<Command<'_>>
 }
 
 /// `FILE OUT`.
-fn copied(words: &[String]) -> Option<Command<'_>>
-    ensures { option_map form_of result ≡ copied (texts words.now) }
+fn copy_form(words: &[String]) -> Option<Command<'_>>
+    ensures { option_map form_of result ≡ copy_form (texts words.now) }
 {
     match words {
         [_, to] => apart(to.as_str(), &words[..1]),
@@ -88,8 +89,8 @@ fn copied(words: &[String]) -> Option<Command<'_>>
 }
 
 /// `OUT FILES`.
-fn spliced(words: &[String]) -> Option<Command<'_>>
-    ensures { option_map form_of result ≡ spliced (texts words.now) }
+fn splice_form(words: &[String]) -> Option<Command<'_>>
+    ensures { option_map form_of result ≡ splice_form (texts words.now) }
 {
     match words {
         [to, from @ ..] if !from.is_empty() && u32::try_from(from.len()).is_ok() => {
@@ -111,8 +112,8 @@ fn apart<'a>(to: &'a str, from: &'a [String]) -> Option<Command<'a>>
 }
 
 /// `N OUT`.
-fn made(words: &[String]) -> Option<Command<'_>>
-    ensures { option_map form_of result ≡ made (texts words.now) }
+fn make_form(words: &[String]) -> Option<Command<'_>>
+    ensures { option_map form_of result ≡ make_form (texts words.now) }
 {
     match words {
         [frames, to] => Some(Command::Make {

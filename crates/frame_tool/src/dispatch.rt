@@ -3,7 +3,8 @@
 ghost use Rattle.std.specs.Prelude.{◌≢◌, ◌<◌, ◌≤◌, ◌+◌, ◌^◌, length, All, Some};
 ghost use Rattle.std.specs.String.{string_bytes};
 ghost use Rattle.frame_tool.specs.Words.{WalkFile, SameFiles, SpliceFiles, DumpFile, MakeFile, texts};
-ghost use Rattle.frame_tool.specs.Due.{IsWalkDue, IsReportDue, IsSameDue, IsSpliceDue, IsDumpDue, IsMakeDue, form_asking};
+ghost use Rattle.frame_tool.specs.Due.{IsWalkDue, IsReportDue, IsSameDue, IsSpliceDue, IsDumpDue, IsMakeDue};
+ghost use Rattle.frame_tool.specs.Due.{form_asking};
 ghost use Rattle.frame_tool.specs.Run.{Runs, Replies};
 
 use crate::answer::{answer_finding, answer_line, answer_walk};

@@ -16,24 +16,6 @@ mod outcome;
 mod pieces;
 #[cfg(test)]
 mod tests;
-#[cfg(test)]
-mod tests_of_channels;
-#[cfg(test)]
-mod tests_of_check;
-#[cfg(test)]
-mod tests_of_copies;
-#[cfg(test)]
-mod tests_of_dumps;
-#[cfg(test)]
-mod tests_of_frames;
-#[cfg(test)]
-mod tests_of_making;
-#[cfg(test)]
-mod tests_of_reader;
-#[cfg(test)]
-mod tests_of_same;
-#[cfg(test)]
-mod tests_of_tables;
 mod verdict;
 mod walk;
 #[cfg(test)]

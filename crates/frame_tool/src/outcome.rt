@@ -110,9 +110,9 @@ fn fault_line(
 
 impl From<Result<Comparison, CompareError>> for Outcome {
     ghost use Rattle.std.specs.Prelude.{◌≡◌};
-    ghost use Rattle.frame_tool.specs.Outcome.{compared};
+    ghost use Rattle.frame_tool.specs.Outcome.{comparison_outcome};
 
-    ghost from_gives = { λ answer result. result ≡ compared answer };
+    ghost from_gives = { λ answer result. result ≡ comparison_outcome answer };
 
     fn from(answer: Result<Comparison, CompareError>) -> Outcome {
         match answer {
@@ -132,9 +132,9 @@ impl From<Result<Comparison, CompareError>> for Outcome {
 
 impl From<SpliceError> for Outcome {
     ghost use Rattle.std.specs.Prelude.{◌≡◌};
-    ghost use Rattle.frame_tool.specs.Outcome.{stopped};
+    ghost use Rattle.frame_tool.specs.Outcome.{splice_error_outcome};
 
-    ghost from_gives = { λ error result. result ≡ stopped error };
+    ghost from_gives = { λ error result. result ≡ splice_error_outcome error };
 
     fn from(error: SpliceError) -> Outcome {
         match error {

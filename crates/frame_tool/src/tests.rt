@@ -1,5 +1,15 @@
-//! Runs of `walk` over a shelf and a sink in memory: worked files with the text and the status that each gives, and calls that
-//! fail in turn.
+//! Runs of `walk` over a shelf and a sink in memory: worked files with the text and the status that each gives, and
+//! calls that fail in turn.
+
+mod channels;
+mod check;
+mod copies;
+mod dumps;
+mod frames;
+mod making;
+mod reader;
+mod same;
+mod tables;
 
 use crate::worked_files::{BIG, LITTLE, ONE_FRAME, Outside, WHOLE, changed, run_over};
 use std::alloc::{AllocError, Global};

@@ -24,9 +24,9 @@ pub const BIG: &[u8] = b"\
     \0\0\0\0\0\0\0'\0\x02\0\0\0\x03\0\x07chkSum\0\0\x07INT_4U\0\0\x01\0\0\0\0\0\
     \0\0\0\0\0\0\0&\0\x0b\0\0\0\0\0\0\0\0\0\0\0\0\0\0\x01\x11\0\0\0\0\0\0\0\0\0\0\0\0";
 
-/// A file of one frame, 3,637 bytes: its header, and a structure a line. FrameH stands at 569, FrRawData at 809, FrDetector at
-/// 1129, channels at 1485, 2227 and 2366 with a vector each at 2137, 2276 and 2415, FrEndOfFrame at 2656, FrTOC at 3313, and
-/// FrEndOfFile at 3599. The entry of a structure ends where its first record begins.
+/// A file of one frame, 3,637 bytes: its header, and a structure a line. FrameH stands at 569, FrRawData at 809,
+/// FrDetector at 1129, channels at 1485, 2227 and 2366 with a vector each at 2137, 2276 and 2415, FrEndOfFrame at 2656,
+/// FrTOC at 3313, and FrEndOfFile at 3599. The entry of a structure ends where its first record begins.
 pub const ONE_FRAME: &[u8] = b"\
     IGWD\0\x08\0\x02\x04\x08\x04\x084\x12xV4\x12\xef\xcd\xab\x89gE#\x01\xdb\x0fI@\x18-DT\xfb!\x09@\0\0\
     \x20\0\0\0\0\0\0\0\0\x01\0\0\0\0\x07\0FrameH\0\x03\0\x01\0\0\0\0\0\0\

@@ -3,7 +3,7 @@ use Rattle.std.proofs.Common.{◌≡◌, ◌<◌, ◌≤◌, ℕ, List, Result, 
 use Rattle.std.proofs.Common.{ap, ◌∙◌, subst}
 use Rattle.std.proofs.lemmas.Bool.{cases_lt, lt-ltb, le-ltb, cond-true, cond-false}
 use Rattle.std.specs.Prelude.{option_map, nat_lt, ◌⊎◌, OnErr}
-use Rattle.frame_outside.specs.Shelf.{Outside, Reading, Told, reading_at, passed}
+use Rattle.frame_outside.specs.Shelf.{Outside, Reading, Told, reading_at, reading_past}
 use Rattle.frame_outside.proofs.Slots.{reading_at-pass}
 use Rattle.structure_source.specs.Source.{Position, Stands, GoesOn}
 use Rattle.structure_source.proofs.Going.{at-now}
@@ -26,15 +26,15 @@ told-on old new before after P goes told = λ reading seen.
     ∙ reading_at-pass old.slots before.slot goes.draws.drawn) ∙ seen)
   where
     by : (o : Option Reading) → Told o (λ reading. P reading.opened) → (reading : Reading)
-        → option_map (passed goes.draws.drawn) o ≡ Some reading → P reading.opened
+        → option_map (reading_past goes.draws.drawn) o ≡ Some reading → P reading.opened
     by None told reading is = absurd (none reading is)
       where
         none : (r : Reading) → ◌≡◌ {A = Option Reading} None (Some r) → ⊥
         none r e = cc
     by (Some r) told reading is = subst P (ap (λ (x : Reading). x.opened) (some is)) (told r refl)
       where
-        some : ◌≡◌ {A = Option Reading} (Some (passed goes.draws.drawn r)) (Some reading)
-            → passed goes.draws.drawn r ≡ reading
+        some : ◌≡◌ {A = Option Reading} (Some (reading_past goes.draws.drawn r)) (Some reading)
+            → reading_past goes.draws.drawn r ≡ reading
         some e = cc
 
 -- the place judged, of two cursors that stand at one
@@ -84,7 +84,8 @@ size-none n is = by (cases_lt n 14) (cases_lt record_limit n)
     large : 14 ≤ n → record_limit < n → ⊥
     large le lt =
         apart RecordLimit (size_reason n)
-        (cond-false (nat_lt n 14) _ _ (le-ltb n 14 le) ∙ cond-true (nat_lt record_limit n) _ _ (lt-ltb record_limit n lt)) is
+        (cond-false (nat_lt n 14) _ _ (le-ltb n 14 le)
+        ∙ cond-true (nat_lt record_limit n) _ _ (lt-ltb record_limit n lt)) is
 
     by : (n < 14) ⊎ (14 ≤ n) → (record_limit < n) ⊎ (n ≤ record_limit) → (14 ≤ n) × (n ≤ record_limit)
     by (inl lt) other = absurd (small lt)

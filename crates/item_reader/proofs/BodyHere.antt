@@ -7,7 +7,7 @@ use Rattle.dictionary.specs.declared.entries.Entry.{Entry}
 use Rattle.layout_plan.specs.declared.fields.Field.{Field}
 use Rattle.layout_plan.specs.Body.{HasBody}
 use Rattle.file_grammar.specs.Record.{Reading, reading_by, reading_of, layout_in}
-use Rattle.file_grammar.specs.Fault.{Here, place, told, held, structure}
+use Rattle.file_grammar.specs.Fault.{Here, place, length_there, entries_before, structure}
 use Rattle.item_reader.specs.declared.structure.Placed.{Placed}
 use Rattle.item_reader.specs.Placed.{StandsIn, structure_by}
 use Rattle.item_reader.proofs.Located.{body-here, told-here}
@@ -27,7 +27,7 @@ structure-stands h p body stands = stands.placed.is ∙ ap (structure_by p) (sym
 
 -- its length is that of its body, and 14
 pub size-stands : (h : Here) (p : Placed) (body : List ℕ) → StandsHere h p body → p.length ≡ 14 + length body
-    → told h ≡ 14 + length (structure h).body
+    → length_there h ≡ 14 + length (structure h).body
 size-stands h p body stands size =
     told-here h p stands.placed
     ∙ size
@@ -39,9 +39,9 @@ some-reading None e = absurd (false≢true e)
 some-reading (Some reading) e = (reading, refl)
 
 -- a body that spells the layout of its class reads
-pub spelled-reads : (order : Order) (held : List Entry) (p : Placed) (body : List ℕ) (fs : List Field)
-    → layout_in held p.class ≡ Some fs → HasBody order fs body
-    → IsSome (reading_of order held (structure_by p body))
-spelled-reads order held p body fs is spelled =
+pub spelled-reads : (order : Order) (entries_before : List Entry) (p : Placed) (body : List ℕ) (fs : List Field)
+    → layout_in entries_before p.class ≡ Some fs → HasBody order fs body
+    → IsSome (reading_of order entries_before (structure_by p body))
+spelled-reads order entries_before p body fs is spelled =
     ap (λ o. is_some (option_and_then (reading_by order body) o)) is
-    ∙ ap is_some (reading-again order body fs spelled.0 spelled.1 (layout-sound held p.class fs is) spelled.2)
+    ∙ ap is_some (reading-again order body fs spelled.0 spelled.1 (layout-sound entries_before p.class fs is) spelled.2)

@@ -8,7 +8,7 @@ use Rattle.frame_outside.specs.Shelf.{Reading}
 use Rattle.frame_outside.specs.SlotReader.{most_ahead}
 use Rattle.structure_source.specs.declared.source.Head.{Head}
 use Rattle.structure_source.specs.declared.source.Head.TheVariants.{Whole}
-use Rattle.structure_source.specs.Source.{Position, drawn, IsBounded, IsHead, PassesHead, PassesNext, Appends}
+use Rattle.structure_source.specs.Source.{Position, bytes_drawn, IsBounded, IsHead, PassesHead, PassesNext, Appends}
 use Rattle.file_grammar.specs.declared.fault.Fault.{Fault}
 use Rattle.file_grammar.specs.Structure.{common_at, left_at}
 use Rattle.file_grammar.specs.Described.{element_at}
@@ -91,7 +91,7 @@ look-headed order file at common to it =
 -- what is drawn for the body is within it
 pub look-brought : (order : Order) (file : List ℕ) (common : Common) (start head after : Position)
     → IsHeaded order file start.at common head.at → length start.ahead ≤ most_ahead → IsBounded start 14 head
-    → IsBounded head (common.length - 14) after → drawn after ≤ look order file start.at
+    → IsBounded head (common.length - 14) after → bytes_drawn after ≤ look order file start.at
 look-brought order file common start head after it few first second =
     omega (
       arith,

@@ -26,7 +26,7 @@ use Rattle.file_grammar.specs.Structure.{structure_at, end_of}
 use Rattle.file_grammar.specs.Kind.{kind_of}
 use Rattle.file_grammar.specs.Described.{element_at}
 use Rattle.file_grammar.specs.Item.{Before, nothing_yet}
-use Rattle.file_grammar.specs.Fault.{Here, place, held, class, kind, fault_at, fault_here}
+use Rattle.file_grammar.specs.Fault.{Here, place, entries_before, class, kind, fault_at, fault_here}
 use Rattle.file_grammar.specs.Steps.{length_reason, reason_of}
 use Rattle.file_grammar.proofs.Lengths.{Fits}
 use Rattle.file_grammar.proofs.Structures.{size-structure_at, stands-whole, stands-fits}
@@ -253,7 +253,7 @@ pub fault-unread : (order : Order) (file : List ℕ) (at : ℕ) (p : Placed) (bo
 fault-unread order file at p body f placed class_is body_is fault before here unclosed =
     let h : Here = record { order = order; file = file; before = before } in
     let there : IsPlaced order file (place h) p = subst (λ at. IsPlaced order file at p) (sym here) placed in
-    let kind_is : kind h ≡ FrSE = ap (kind_of (held h)) (class-here h p there ∙ class_is) in
+    let kind_is : kind h ≡ FrSE = ap (kind_of (entries_before h)) (class-here h p there ∙ class_is) in
     let wrong = body_fault-of h element_fields (fields-FrSE h kind_is)
     ∙ ap (fault_of order element_fields) (body-here h p there ∙ sym body_is) ∙ fault in
     fault-kind h p unclosed there ∙ element-parts h kind_is

@@ -4,7 +4,7 @@ use Rattle.std.proofs.Common.{inr, refl, sym, ap, ◌∙◌, subst, arith}
 use Rattle.std.specs.Prelude.{◌==◌}
 use Rattle.std.proofs.lemmas.Bool.{ne_eqb, false≢true}
 use Rattle.frame_outside.specs.Shelf.{Outside, Reading, reading_at}
-use Rattle.structure_source.specs.Source.{Position, Stands, GoesOn, IsBounded, PassesNext, drawn}
+use Rattle.structure_source.specs.Source.{Position, Stands, GoesOn, IsBounded, PassesNext, bytes_drawn}
 use Rattle.structure_source.proofs.Going.{at-now}
 use Rattle.file_grammar.specs.declared.fault.Fault.{Fault}
 use Rattle.file_grammar.specs.declared.kind.Kind.TheVariants.{FrEndOfFile}
@@ -34,9 +34,9 @@ use Rattle.item_reader.proofs.Passing.{look-head}
 -- a source that has passed the whole structure and then asked for one byte has drawn no further than the look
 pub beyond-look : (outside : Outside) (c : Cursor) (p : Placed) (middle after : Position)
     → HasPassed outside c p
-    → InFile outside c (λ h. drawn middle ≤ look h.order h.file h.before.place)
+    → InFile outside c (λ h. bytes_drawn middle ≤ look h.order h.file h.before.place)
     → middle.at ≡ c.state.at + p.length → IsBounded middle 1 after
-    → InFile outside c (λ h. drawn after ≤ look h.order h.file h.before.place)
+    → InFile outside c (λ h. bytes_drawn after ≤ look h.order h.file h.before.place)
 beyond-look outside c p middle after passed few moved bounded = λ reading told.
     let far = look-head (here_in c.state reading.opened) p (passed.head reading told) passed.here in
     omega (arith, far, few reading told, bounded.few, moved)

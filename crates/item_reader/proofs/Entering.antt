@@ -12,7 +12,7 @@ use Rattle.file_grammar.specs.Structure.{Structure, end_of, structure_at}
 use Rattle.file_grammar.specs.Kind.{kind_of}
 use Rattle.file_grammar.specs.Described.{longest_run, entry_from}
 use Rattle.file_grammar.specs.Item.{Item, EntryItem}
-use Rattle.file_grammar.specs.Fault.{Here, place, held, kind, class, structure}
+use Rattle.file_grammar.specs.Fault.{Here, place, entries_before, kind, class, structure}
 use Rattle.file_grammar.specs.Steps.{item_by}
 use Rattle.file_grammar.proofs.Classes.{class-FrSH}
 use Rattle.item_reader.specs.declared.cursor.Cursor.{Cursor}
@@ -39,7 +39,8 @@ use Rattle.item_reader.proofs.Giving.{gives-open}
 
 -- what is told of the file later on holds of it as it was told at first
 pub told-later : (first now : Outside) (start middle : Position) (P : List ℕ → Type 0)
-    → GoesOn first now start middle → Stands now middle → Told (reading_at now.slots middle.slot) (λ reading. P reading.opened)
+    → GoesOn first now start middle → Stands now middle
+    → Told (reading_at now.slots middle.slot) (λ reading. P reading.opened)
     → Told (reading_at first.slots start.slot) (λ reading. P reading.opened)
 told-later first now start middle P goes stands seen = λ reading told.
     let here = at-now first now start middle reading goes stands told in
@@ -69,7 +70,7 @@ pub entry-look : (h : Here) (p : Placed) (body : List ℕ) (begun : Entry) (drew
 entry-look h p body begun drew stands is begins few =
     let end : ℕ = end_from h.order h.file (place h + p.length) in
     let after : IsAfterEntry h.order h.file (place h) end = record {
-      class = class-FrSH (held h) (class h) is;
+      class = class-FrSH (entries_before h) (class h) is;
       whole = whole-here h p stands.placed;
       entry = record begun { elements = elements_from h.order h.file (end_of (structure h)) };
       described = begins h.file (place h) p stands.placed stands.body_is;
@@ -145,18 +146,19 @@ whole-entry order file at entry end d short =
     ∙ sym d.full_is
 
 -- it is lent with what was kept beside the dictionary
-pub lent-beside : (r : Result Given ReadError) (entry : Entry) (old : List Entry) (kept : Option Entry) (new : List Entry)
+pub lent-beside : (r : Result Given ReadError) (entry : Entry) (old : List Entry) (kept : Option Entry)
+    (new : List Entry)
     → IfOk r (λ item. (kept : Option Entry) → IsBeside old entry kept → entry_in (Some item) kept new ≡ Some entry)
     → IsBeside old entry kept → IfOk r (λ item. entry_in (Some item) kept new ≡ Some entry)
 lent-beside (Ok item) entry old kept new lent beside = lent kept beside
 lent-beside (Err e) entry old kept new lent beside = tt
 
 -- so an entry is lent
-pub lends-one : (r : Result Given ReadError) (entry : Entry) (kept : Option Entry) (held : List Entry)
-    → IfOk r (λ item. entry_in (Some item) kept held ≡ Some entry)
-    → IfOk r (λ item. IsEntry item → IsSome (entry_in (Some item) kept held))
-lends-one (Ok item) entry kept held lent = λ is. subst IsSome (sym lent) refl
-lends-one (Err e) entry kept held lent = tt
+pub lends-one : (r : Result Given ReadError) (entry : Entry) (kept : Option Entry) (entries_before : List Entry)
+    → IfOk r (λ item. entry_in (Some item) kept entries_before ≡ Some entry)
+    → IfOk r (λ item. IsEntry item → IsSome (entry_in (Some item) kept entries_before))
+lends-one (Ok item) entry kept entries_before lent = λ is. subst IsSome (sym lent) refl
+lends-one (Err e) entry kept entries_before lent = tt
 
 -- What taking it answers is what is given of it, where what stands after it was looked at.
 pub gives-entry : (h : Here) (old : State) (end : ℕ) (r : Result Given ReadError) (new : Cursor) (entry : Entry)
@@ -179,7 +181,8 @@ gives-entry h old end (Ok item) new entry is order none frame looked takes moved
     (kept.order ∙ order) kept.sound kept.pending (still.numbering ∙ frame)
     (subst (λ at. IsLooked h.order h.file at new.source.at new.looked) (sym moved) looked)
     (subst (λ i. ClosesBy i new.state.closed) found.told.3 closes)
-gives-entry h old end (Err (error.Fault fault)) new entry is order none frame looked told moved closes keeps still d short
+gives-entry h old end (Err
+    (error.Fault fault)) new entry is order none frame looked told moved closes keeps still d short
     lent instance =
     inl told
 gives-entry h old end (Err error.Device) new entry is order none frame looked told moved closes keeps still d short lent

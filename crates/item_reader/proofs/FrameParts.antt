@@ -13,7 +13,7 @@ use Rattle.file_grammar.specs.declared.kind.Kind.TheVariants.{FrTOC, FrEndOfFile
 use Rattle.file_grammar.specs.Kind.{is_header_kind, is_end_kind}
 use Rattle.file_grammar.specs.MayStand.{frames_limit}
 use Rattle.file_grammar.specs.Record.{first_loose}
-use Rattle.file_grammar.specs.Fault.{Here, place, held, kind, here, has_header, fault_at, first_of}
+use Rattle.file_grammar.specs.Fault.{Here, place, entries_before, kind, here, has_header, fault_at, first_of}
 use Rattle.file_grammar.proofs.Firsts.{first_of-passes}
 use Rattle.file_grammar.proofs.Tests.{first_of-test, test-NoFrameH, test-LooseLink, test-FramesLimit}
 use Rattle.item_reader.specs.declared.state.State.{State}
@@ -47,20 +47,20 @@ pub later-plain : (h : Here) → is_header_kind (kind h) ≡ false
     → first_of later_record_reasons h ≡ first_of place_reasons h
 later-plain h plain =
     first_of-passes FrameHTwice place_reasons h
-    (ap (here h) (and_left (is_header_kind (kind h)) (has_header (held h) h.before.frame) plain))
+    (ap (here h) (and_left (is_header_kind (kind h)) (has_header (entries_before h) h.before.frame) plain))
 
 -- one of a frame that has none
-pub later-first : (h : Here) → has_header (held h) h.before.frame ≡ false
+pub later-first : (h : Here) → has_header (entries_before h) h.before.frame ≡ false
     → first_of later_record_reasons h ≡ first_of place_reasons h
 later-first h first =
     first_of-passes FrameHTwice place_reasons h
-    (ap (here h) (and_right (is_header_kind (kind h)) (has_header (held h) h.before.frame) first))
+    (ap (here h) (and_right (is_header_kind (kind h)) (has_header (entries_before h) h.before.frame) first))
 
 -- ---- the end of a frame
 
 -- the frame has its header, and each link leads somewhere
-pub end-linked : (h : Here) → is_end_kind (kind h) ≡ true → has_header (held h) h.before.frame ≡ true
-    → first_loose h.order (held h) h.before.frame h.before.frame ≡ None
+pub end-linked : (h : Here) → is_end_kind (kind h) ≡ true → has_header (entries_before h) h.before.frame ≡ true
+    → first_loose h.order (entries_before h) h.before.frame h.before.frame ≡ None
     → first_of frame_end_reasons h ≡ first_of (place_reasons ++ FramesLimit ∷ []) h
 end-linked h ends header linked =
     first_of-passes NoFrameH (LooseLink ∷ place_reasons ++ FramesLimit ∷ []) h (test-NoFrameH h ends

@@ -14,7 +14,8 @@ use Rattle.file_grammar.proofs.Judging.{first_of-heavy, weight_reason-told}
 use Rattle.file_grammar.specs.Kind.{is_table_kind, is_target_kind, is_frame_kind}
 use Rattle.file_grammar.specs.Record.{layout_in}
 use Rattle.file_grammar.specs.Item.{Item, OtherItem}
-use Rattle.file_grammar.specs.Fault.{Here, place, held, told, load, weight, class, kind, structure, first_of}
+use Rattle.file_grammar.specs.Fault.{Here, place, entries_before, length_there, load, weight, class, kind, structure}
+use Rattle.file_grammar.specs.Fault.{first_of}
 use Rattle.file_grammar.specs.Fault.{fault_at, fault_here}
 use Rattle.file_grammar.specs.Steps.{item_by, reasons_of}
 use Rattle.item_reader.specs.declared.cursor.Cursor.{Cursor}
@@ -23,7 +24,7 @@ use Rattle.item_reader.specs.declared.item.Item.TheVariants as given
 use Rattle.item_reader.specs.declared.item.ReadError.{ReadError}
 use Rattle.item_reader.specs.declared.item.ReadError.TheVariants as error
 use Rattle.frame_outside.specs.Shelf.{Outside}
-use Rattle.structure_source.specs.Source.{Position, drawn}
+use Rattle.structure_source.specs.Source.{Position, bytes_drawn}
 use Rattle.item_reader.specs.Looked.{look, IsWithinLook, IsLooked}
 use Rattle.item_reader.specs.declared.state.State.{State}
 use Rattle.item_reader.specs.declared.structure.Placed.{Placed}
@@ -58,25 +59,26 @@ refused h (error.Fault fault) new said = inl (said fault refl)
 refused h error.Device new said = tt
 refused h error.NoMemory new said = tt
 
-pub refused-in : {T : Type 0} (outside : Outside) (c : Cursor) (r : Result Given ReadError) (e : ReadError) (new : Cursor)
+pub refused-in : {T : Type 0} (outside : Outside) (c : Cursor) (r : Result Given ReadError) (e : ReadError)
+    (new : Cursor)
     → IsErrAnd r (λ x. x ≡ e)
     → ((fault : Fault) → ◌≡◌ {A = Result T ReadError} (Err e) (Err (error.Fault fault))
     → InFile outside c (λ h. fault_here h ≡ Some fault))
     → InFile outside c (λ h. GivesNext h r new)
-refused-in {T} outside c r e new is said = λ reading told.
+refused-in {T} outside c r e new is said = λ reading length_there.
     let h : Here = here_in c.state reading.opened in
     err-passed r e (λ r. GivesNext h r new) is
-    (refused h e new (λ fault same. said fault (ap Err same) reading told))
+    (refused h e new (λ fault same. said fault (ap Err same) reading length_there))
 
 -- what was drawn reaches no further than the look of the place
 pub within : (outside : Outside) (c : Cursor) (p : Position)
-    → InFile outside c (λ h. drawn p ≤ look h.order h.file h.before.place)
-    → InFile outside c (λ h. IsWithinLook h.order h.file h.before.place (drawn p))
-within outside c p few = λ reading told. inl (few reading told)
+    → InFile outside c (λ h. bytes_drawn p ≤ look h.order h.file h.before.place)
+    → InFile outside c (λ h. IsWithinLook h.order h.file h.before.place (bytes_drawn p))
+within outside c p few = λ reading length_there. inl (few reading length_there)
 
 pub err-within : {T : Type 0} (r : Result T ReadError) (outside : Outside) (c : Cursor) (p : Position)
-    → InFile outside c (λ h. drawn p ≤ look h.order h.file h.before.place)
-    → OnErr r (InFile outside c (λ h. IsWithinLook h.order h.file h.before.place (drawn p)))
+    → InFile outside c (λ h. bytes_drawn p ≤ look h.order h.file h.before.place)
+    → OnErr r (InFile outside c (λ h. IsWithinLook h.order h.file h.before.place (bytes_drawn p)))
 err-within r outside c p few = err-said r _ (within outside c p few)
 
 -- a structure of which the head tells a fault, where it is whole, was passed over
@@ -84,9 +86,9 @@ pub passed-over : (h : Here) (e : ReadError) (new : Cursor) (fault : Fault) (p :
     → ((other : Fault) → e ≡ error.Fault other
     → (fault_here h ≡ Some other) ⊎ ((other ≡ fault) × IsPlaced h.order h.file (place h) p))
     → (IsPlaced h.order h.file (place h) p → fault_here h ≡ Some fault) → GivesNext h (Err e) new
-passed-over h e new fault p said told = refused h e new (λ other is. elim (said other is) [
+passed-over h e new fault p said length_there = refused h e new (λ other is. elim (said other is) [
   | inl there ↦ there
-  | inr whole ↦ told whole.1 ∙ ap Some (sym whole.0)
+  | inr whole ↦ length_there whole.1 ∙ ap Some (sym whole.0)
 ])
 
 -- ---- the item given
@@ -105,14 +107,16 @@ pub body-taken : (h : Here) (taken : Item) (p : Placed) (body : List ℕ) → ta
 body-taken h taken p body is apart stands =
     stands.body_is
     ∙ sym (body-here h p stands.placed)
-    ∙ sym (ap (λ b. cond (b && is_none (layout_in (held h) (class h))) [] (structure h).body) apart)
+    ∙ sym (ap (λ b. cond (b && is_none (layout_in (entries_before h) (class h))) [] (structure h).body) apart)
     ∙ sym (ap (body_after h) is)
 
 pub table-taken : (h : Here) (taken : Item) (p : Placed) → taken ≡ OtherItem (structure h) → kind h ≡ FrTOC
-    → IsPlaced h.order h.file (place h) p → table_body (held h) p (body_of h.file p) ≡ body_after h taken
+    → IsPlaced h.order h.file (place h) p → table_body (entries_before h) p (body_of h.file p) ≡ body_after h taken
 table-taken h taken p is table placed =
-    (λ i. cond (is_none (layout_in (held h) (sym (class-here h p placed) i))) [] (sym (body-here h p placed) i))
-    ∙ sym (ap (λ k. cond (is_table_kind k && is_none (layout_in (held h) (class h))) [] (structure h).body) table)
+    (λ i. cond (is_none (layout_in (entries_before h) (sym (class-here h p placed) i))) []
+    (sym (body-here h p placed) i))
+    ∙ sym (ap (λ k. cond (is_table_kind k && is_none (layout_in (entries_before h) (class h))) []
+    (structure h).body) table)
     ∙ sym (ap (body_after h) is)
 
 -- it is no entry, and its instance is told
@@ -151,7 +155,8 @@ gives-open h item new takes body entry instance collects order sound none frame 
 
 -- ---- what is given of a structure of a kind
 
-pub tells-other : (h : Here) (taken : Item) (item : Given) (k : Kind) → Tells h taken item → taken ≡ OtherItem (structure h)
+pub tells-other : (h : Here) (taken : Item) (item : Given) (k : Kind) → Tells h taken item
+    → taken ≡ OtherItem (structure h)
     → kind h ≡ k → TellsKind k h (structure h) item
 tells-other h taken item k tells other is =
     subst (λ k. TellsKind k h (structure h) item) is (subst (λ i. Tells h i item) other tells)
@@ -182,8 +187,10 @@ frame_end-item h s (given.FileEnd at class size seek) t = absurd t
 
 pub record-item : (h : Here) (s : Structure) (item : Given) (k : Kind) → is_target_kind k ≡ true → TellsKind k h s item
     → (at : ℕ) × (class : ℕ) × (instance : ℕ) × (item ≡ given.Plain at class instance (length h.before.frame))
-record-item h s (given.Plain at class instance node) FrameH e t = (at, class, instance, λ i. given.Plain at class instance (t.3 i))
-record-item h s (given.Plain at class instance node) Other e t = (at, class, instance, λ i. given.Plain at class instance (t.3 i))
+record-item h s (given.Plain at class instance node) FrameH e t =
+    (at, class, instance, λ i. given.Plain at class instance (t.3 i))
+record-item h s (given.Plain at class instance node) Other e t =
+    (at, class, instance, λ i. given.Plain at class instance (t.3 i))
 record-item h s (given.Plain at class instance node) FrSH e t = absurd t
 record-item h s (given.Plain at class instance node) FrSE e t = absurd t
 record-item h s (given.Plain at class instance node) FrTOC e t = absurd t
@@ -233,7 +240,7 @@ record-item h s (given.FileEnd at class size seek) k e t = absurd (apart k e t)
 -- a contents table
 pub gives-table : (h : Here) (item : Given) (new : Cursor) (takes : Takes h item new.state) (p : Placed)
     → kind h ≡ FrTOC → IsPlaced h.order h.file (place h) p
-    → new.own.items ≡ table_body (held h) p (body_of h.file p)
+    → new.own.items ≡ table_body (entries_before h) p (body_of h.file p)
     → new.state.segment.order ≡ h.order → IsSound new.state → new.state.segment.pending ≡ []
     → new.state.numbering ≡ None → IsLooked h.order h.file new.state.at new.source.at new.looked
     → ClosesBy item new.state.closed → new.instance ≡ p.instance → Gives h item new
@@ -267,8 +274,8 @@ pub overfull-fault : (h : Here) (p : Placed) → h.before.closed ≡ false → I
     → fault_here h ≡ Some (fault_at FrameLimit (place h, 0))
 overfull-fault h p unclosed placed frame over =
     let first = weighed_first (kind h) frame in
-    let same : told h ≡ p.length = told-here h p placed in
+    let same : length_there h ≡ p.length = told-here h p placed in
     fault-kind h p unclosed placed
     ∙ ap (λ rs. first_of rs h) first.1
     ∙ first_of-heavy h first.0 FrameLimit frame (omega (arith, same, placed.small))
-    (weight_reason-told (load h) (told h) (weight h) (omega (arith, same, over)))
+    (weight_reason-told (load h) (length_there h) (weight h) (omega (arith, same, over)))

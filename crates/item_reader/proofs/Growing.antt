@@ -106,7 +106,8 @@ step-cases held e next is = built (is_built_in e.class) refl is
     same high old there false f = absurd (err≢ok Redefined next f)
 
     new : e.class ≤ 255 → entry_of held e.class ≡ None → (named long : Bool)
-        → cond named (Err NameTwice) (cond long (Err ElementLimit) (Ok (held ++ e ∷ []))) ≡ Ok next → Stepped held e next
+        → cond named (Err NameTwice) (cond long (Err ElementLimit) (Ok (held ++ e ∷ []))) ≡ Ok next
+        → Stepped held e next
     new high none true long f = absurd (err≢ok NameTwice next f)
     new high none false true f = absurd (err≢ok ElementLimit next f)
     new high none false false f = inr (high, sym (same_Ok (held ++ e ∷ []) next f), none)

@@ -22,7 +22,7 @@ use Rattle.file_grammar.specs.declared.kind.Kind.TheVariants.{FrSH}
 use Rattle.file_grammar.specs.Structure.{file_limit}
 use Rattle.file_grammar.specs.Kind.{kind_of}
 use Rattle.file_grammar.specs.Record.{layout_in}
-use Rattle.file_grammar.specs.Fault.{Here, place, told, kind, refusal, here, err_of, fault_at, first_of}
+use Rattle.file_grammar.specs.Fault.{Here, place, length_there, kind, refusal, here, err_of, fault_at, first_of}
 use Rattle.file_grammar.specs.Steps.{refusal_reason}
 use Rattle.file_grammar.proofs.Firsts.{first_of-passes, first_of-holds}
 use Rattle.file_grammar.proofs.Judging.{first_of-taken, first_of-refused}
@@ -111,7 +111,7 @@ kind-here h p here = ap (kind_of h.before.dictionary) (class-here h p here)
 
 -- it ends beyond the limit of files, or it does not
 pub beyond-here : (h : Here) (p : Placed) → IsPlaced h.order h.file (place h) p
-    → nat_lt file_limit (place h + told h) ≡ nat_lt file_limit (p.at + p.length)
+    → nat_lt file_limit (place h + length_there h) ≡ nat_lt file_limit (p.at + p.length)
 beyond-here h p here =
     λ i. nat_lt file_limit (sym here.place i + told-here h p here i)
 

@@ -29,7 +29,7 @@ use Rattle.file_grammar.specs.Kind.{kind_of, kind_named, is_header_kind, is_file
 use Rattle.file_grammar.specs.Record.{reading_of, reading_by}
 use Rattle.file_grammar.specs.MayStand.{frames_limit}
 use Rattle.file_grammar.specs.Closing.{closes}
-use Rattle.file_grammar.specs.Fault.{Here, place, told, kind, class, elements, here, has_header, first_of}
+use Rattle.file_grammar.specs.Fault.{Here, place, length_there, kind, class, elements, here, has_header, first_of}
 use Rattle.file_grammar.proofs.Firsts.{first-none}
 use Rattle.file_grammar.proofs.Tests.{test-BadClosing}
 use Rattle.item_reader.specs.declared.state.State.{State}
@@ -61,7 +61,7 @@ limit-here : (h : Here) (p : Placed) → IsPlaced h.order h.file (place h) p
     → p.at + p.length ≤ file_limit
 limit-here h p placed none =
     ltb-false file_limit (p.at + p.length) (sym (beyond-here h p placed)
-    ∙ unmet h (nat_lt file_limit (place h + told h)) (first-none FileLimit [] h none).0)
+    ∙ unmet h (nat_lt file_limit (place h + length_there h)) (first-none FileLimit [] h none).0)
 
 -- a reason in front of others is passed
 behind : (r : Reason) (rs : List Reason) (h : Here) → first_of (r ∷ rs) h ≡ None → first_of rs h ≡ None
@@ -88,7 +88,7 @@ frame_end-below s p body at size instance none =
     (behind NoFrameH (drop 1 frame_end_reasons) h (none h.file stands)) in
     let last = behind AfterTable (drop 3 frame_end_reasons) h linked in
     ltb-false file_limit (p.at + p.length) (sym (beyond-here h p stands.placed)
-    ∙ unmet h (nat_lt file_limit (place h + told h)) (first-none FileLimit (FramesLimit ∷ []) h last).0)
+    ∙ unmet h (nat_lt file_limit (place h + length_there h)) (first-none FileLimit (FramesLimit ∷ []) h last).0)
 
 pub file_end-below : (s : State) (p : Placed) (body : List ℕ) → IsStructureAt s.at p
     → p.length ≡ 14 + length body

@@ -5,7 +5,8 @@ use Rattle.std.proofs.lemmas.Bool.{ne_eqb}
 use Rattle.item_reader.specs.declared.structure.Placed.{Placed}
 use Rattle.file_grammar.specs.Structure.{Structure, size_of, end_of, record_limit}
 use Rattle.file_grammar.specs.Kind.{kind_of}
-use Rattle.file_grammar.specs.Fault.{Here, place, left, told, held, class, kind, structure, reasons, first_of}
+use Rattle.file_grammar.specs.Fault.{Here, place, bytes_there, length_there, entries_before, class, kind, structure}
+use Rattle.file_grammar.specs.Fault.{reasons, first_of}
 use Rattle.file_grammar.specs.Fault.{fault_by, fault_here}
 use Rattle.file_grammar.specs.Steps.{length_reason, reasons_of}
 use Rattle.item_reader.specs.Placed.{body_of, IsPlaced}
@@ -13,14 +14,15 @@ use Rattle.file_grammar.proofs.Lengths.{Fits, fits-length}
 use Rattle.file_grammar.proofs.Structures.{size-structure_at}
 use Rattle.file_grammar.proofs.Judging.{first_of-kind}
 
-pub told-here : (h : Here) (p : Placed) → IsPlaced h.order h.file (place h) p → told h ≡ p.length
+pub told-here : (h : Here) (p : Placed) → IsPlaced h.order h.file (place h) p → length_there h ≡ p.length
 told-here h p here = sym here.length_is
 
 pub class-here : (h : Here) (p : Placed) → IsPlaced h.order h.file (place h) p → class h ≡ p.class
 class-here h p here = ap (λ (s : Structure). s.class) here.is
 
-pub kind-here : (h : Here) (p : Placed) → IsPlaced h.order h.file (place h) p → kind h ≡ kind_of (held h) p.class
-kind-here h p here = ap (kind_of (held h)) (class-here h p here)
+pub kind-here : (h : Here) (p : Placed) → IsPlaced h.order h.file (place h) p
+    → kind h ≡ kind_of (entries_before h) p.class
+kind-here h p here = ap (kind_of (entries_before h)) (class-here h p here)
 
 pub instance-here : (h : Here) (p : Placed) → IsPlaced h.order h.file (place h) p → (structure h).instance ≡ p.instance
 instance-here h p here = ap (λ (s : Structure). s.instance) here.is
@@ -28,9 +30,9 @@ instance-here h p here = ap (λ (s : Structure). s.instance) here.is
 pub body-here : (h : Here) (p : Placed) → IsPlaced h.order h.file (place h) p → (structure h).body ≡ body_of h.file p
 body-here h p here = ap (λ (s : Structure). s.body) here.is
 
-pub fits-here : (h : Here) (p : Placed) → IsPlaced h.order h.file (place h) p → Fits (left h) (told h)
+pub fits-here : (h : Here) (p : Placed) → IsPlaced h.order h.file (place h) p → Fits (bytes_there h) (length_there h)
 fits-here h p here =
-    let same : told h ≡ p.length = told-here h p here in
+    let same : length_there h ≡ p.length = told-here h p here in
     let head : 14 ≤ p.length = here.head in
     let small : p.length ≤ record_limit = here.small in
     let within : place h + p.length ≤ length h.file = here.within in
@@ -41,7 +43,8 @@ fits-here h p here =
       whole = omega (arith, same, head, within);
     }
 
-pub whole-here : (h : Here) (p : Placed) → IsPlaced h.order h.file (place h) p → length_reason h.order h.file (place h) ≡ None
+pub whole-here : (h : Here) (p : Placed) → IsPlaced h.order h.file (place h) p
+    → length_reason h.order h.file (place h) ≡ None
 whole-here h p here = fits-length h.order h.file (place h) (fits-here h p here)
 
 pub within-here : (h : Here) (p : Placed) → IsPlaced h.order h.file (place h) p → place h < length h.file

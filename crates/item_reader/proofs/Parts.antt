@@ -27,10 +27,11 @@ use Rattle.file_grammar.specs.Structure.{Structure, size_of, end_of, record_limi
 use Rattle.file_grammar.specs.Closing.{field_named}
 use Rattle.file_grammar.specs.Kind.{is_frame_kind, is_target_kind, is_table_kind, is_header_kind, is_file_end_kind}
 use Rattle.file_grammar.specs.Record.{Reading, reading_by, reading_of, layout_in, is_target, has_target}
-use Rattle.file_grammar.specs.Fault.{Here, Spot, place, left, told, held, class, kind, structure, fields, fields_by}
+use Rattle.file_grammar.specs.Fault.{Here, Spot, place, bytes_there, length_there, entries_before, class, kind}
+use Rattle.file_grammar.specs.Fault.{structure, fields, fields_by}
 use Rattle.file_grammar.specs.Fault.{weight, load, body_fault, elements, number, here, here_at, is_twin, has_twin}
 use Rattle.file_grammar.specs.Fault.{has_header}
-use Rattle.file_grammar.specs.Fault.{judged, fault_at, first_of}
+use Rattle.file_grammar.specs.Fault.{fault_spot, fault_at, first_of}
 use Rattle.file_grammar.specs.Steps.{length_reason, reasons_of}
 use Rattle.item_reader.specs.Judged.{ReadsHere, is_read_kind, body_reasons, reading_reasons, weighing_reasons}
 use Rattle.item_reader.specs.Judged.{place_reasons, record_reasons, frame_end_reasons, table_reasons, count_reasons}
@@ -48,7 +49,7 @@ use Rattle.file_grammar.proofs.Judging.{first_of-good_body, first_of-unread_weig
 
 first_of-append : (xs ys : List Reason) (h : Here) → first_of (xs ++ ys) h ≡ option_or (first_of xs h) (first_of ys h)
 first_of-append [] ys h = refl
-first_of-append (x ∷ xs) ys h = by (judged x h) (first_of (xs ++ ys) h) (first_of-append xs ys h)
+first_of-append (x ∷ xs) ys h = by (fault_spot x h) (first_of (xs ++ ys) h) (first_of-append xs ys h)
   where
     by : (o : Option Spot) (rest : Option Fault) → rest ≡ option_or (first_of xs h) (first_of ys h)
         → option_map_or (λ spot. Some (fault_at x spot)) o rest
@@ -66,11 +67,12 @@ pub first_of-back : (xs ys : List Reason) (h : Here) → first_of xs h ≡ None 
 first_of-back xs ys h e = first_of-append xs ys h ∙ ap (λ o. option_or o (first_of ys h)) e
 
 -- a reason that cannot hold may be put in
-skipped : (reason : Reason) (rs : List Reason) (h : Here) → Fits (left h) (told h) → applies reason (kind h) ≡ false
+skipped : (reason : Reason) (rs : List Reason) (h : Here) → Fits (bytes_there h) (length_there h)
+    → applies reason (kind h) ≡ false
     → first_of rs h ≡ first_of (reason ∷ rs) h
 skipped reason rs h fits e = sym (first_of-passes reason rs h (unapplied h fits reason e))
 
-pub record-parts : (h : Here) → Fits (left h) (told h) → is_target_kind (kind h) ≡ true
+pub record-parts : (h : Here) → Fits (bytes_there h) (length_there h) → is_target_kind (kind h) ≡ true
     → first_of (reasons_of (kind h)) h ≡ first_of (weighing_reasons ++ record_reasons) h
 record-parts h fits target = by (kind h) refl target
   where
@@ -92,7 +94,7 @@ record-parts h fits target = by (kind h) refl target
     by FrTOC is t = absurd (false≢true t)
     by FrEndOfFile is t = absurd (false≢true t)
 
-pub frame_end-parts : (h : Here) → Fits (left h) (told h) → kind h ≡ FrEndOfFrame
+pub frame_end-parts : (h : Here) → Fits (bytes_there h) (length_there h) → kind h ≡ FrEndOfFrame
     → first_of (reasons_of (kind h)) h ≡ first_of (weighing_reasons ++ frame_end_reasons) h
 frame_end-parts h fits is =
     ap (λ k. first_of (reasons_of k) h) is
@@ -100,7 +102,7 @@ frame_end-parts h fits is =
     (first_of-others FrameLimit (drop 2 (reasons_of FrEndOfFrame)) (drop 2 (weighing_reasons ++ frame_end_reasons)) h
     (skipped NoLayout (drop 2 (reasons_of FrEndOfFrame)) h fits (ap (applies NoLayout) is)))
 
-pub file_end-parts : (h : Here) → Fits (left h) (told h) → kind h ≡ FrEndOfFile
+pub file_end-parts : (h : Here) → Fits (bytes_there h) (length_there h) → kind h ≡ FrEndOfFile
     → first_of (reasons_of (kind h)) h ≡ first_of (reading_reasons ++ closing_reasons) h
 file_end-parts h fits is =
     ap (λ k. first_of (reasons_of k) h) is
@@ -132,8 +134,8 @@ described_fields FrEndOfFrame found e = refl
 described_fields FrEndOfFile found e = refl
 described_fields Other found e = refl
 
-pub fields-described : (h : Here) → is_read_kind (kind h) ≡ true → fields h ≡ layout_in (held h) (class h)
-fields-described h e = described_fields (kind h) (layout_in (held h) (class h)) e
+pub fields-described : (h : Here) → is_read_kind (kind h) ≡ true → fields h ≡ layout_in (entries_before h) (class h)
+fields-described h e = described_fields (kind h) (layout_in (entries_before h) (class h)) e
 
 no_table : (k : Kind) → is_read_kind k ≡ true → is_table_kind k ≡ false
 no_table FrTOC e = absurd (false≢true e)
@@ -144,7 +146,7 @@ no_table FrEndOfFrame e = refl
 no_table FrEndOfFile e = refl
 no_table Other e = refl
 
-layout_held : (h : Here) (e : Entry) → entry_of (held h) (class h) ≡ Some e → judged NoLayout h ≡ None
+layout_held : (h : Here) (e : Entry) → entry_of (entries_before h) (class h) ≡ Some e → fault_spot NoLayout h ≡ None
 layout_held h e is = ap (λ o. here h (not (class h == 1 || class h == 2) && is_none o)) is
     ∙ ap (here h) (last (not (class h == 1 || class h == 2)))
   where
@@ -153,10 +155,12 @@ layout_held h e is = ap (λ o. here h (not (class h == 1 || class h == 2) && is_
     last false = refl
 
 -- neither holds where there is a layout
-pub layout-known : (h : Here) (fs : List Field) → is_read_kind (kind h) ≡ true → layout_in (held h) (class h) ≡ Some fs
+pub layout-known : (h : Here) (fs : List Field) → is_read_kind (kind h) ≡ true
+    → layout_in (entries_before h) (class h) ≡ Some fs
     → first_of reading_reasons h ≡ first_of body_reasons h
 layout-known h fs read is =
-    option_and_then_some (λ (e : Entry). layout_of e.elements) (entry_of (held h) (class h)) fs is (λ e there _.
+    option_and_then_some (λ (e : Entry). layout_of e.elements) (entry_of (entries_before h) (class h)) fs is
+    (λ e there _.
     first_of-passes NoLayout (UnreadLayout ∷ body_reasons) h (layout_held h e there)
     ∙ first_of-passes UnreadLayout body_reasons h
     (ap (here h) (λ i. not (no_table (kind h) read i) && is_none ((fields-described h read ∙ is) i))))
@@ -165,17 +169,18 @@ layout-known h fs read is =
 pub fields-sound : (h : Here) (fs : List Field) → fields h ≡ Some fs → AreSound 0 fs
 fields-sound h fs is = by (kind h) is
   where
-    by : (k : Kind) → fields_by k (layout_in (held h) (class h)) ≡ Some fs → AreSound 0 fs
+    by : (k : Kind) → fields_by k (layout_in (entries_before h) (class h)) ≡ Some fs → AreSound 0 fs
     by FrSH e = subst (AreSound 0) (same_Some structure_fields fs e) structure_fields-sound
     by FrSE e = subst (AreSound 0) (same_Some element_fields fs e) element_fields-sound
     by FrTOC e = absurd (none-some fs e)
-    by FrameH e = layout-sound (held h) (class h) fs e
-    by FrEndOfFrame e = layout-sound (held h) (class h) fs e
-    by FrEndOfFile e = layout-sound (held h) (class h) fs e
-    by Other e = layout-sound (held h) (class h) fs e
+    by FrameH e = layout-sound (entries_before h) (class h) fs e
+    by FrEndOfFrame e = layout-sound (entries_before h) (class h) fs e
+    by FrEndOfFile e = layout-sound (entries_before h) (class h) fs e
+    by Other e = layout-sound (entries_before h) (class h) fs e
 
 -- a body that is measured reads by the layout
-pub measured-read : (h : Here) (fs : List Field) (links zero_texts : ℕ) → told h ≡ 14 + length (structure h).body
+pub measured-read : (h : Here) (fs : List Field) (links zero_texts : ℕ)
+    → length_there h ≡ 14 + length (structure h).body
     → fields h ≡ Some fs → IsMeasured h.order fs (structure h).body links zero_texts → IsReadBy h fs zero_texts
 measured-read h fs links zero_texts size is m =
     let reading : Reading = record { fields = fs; values = m.values; tail = m.tail } in
@@ -195,7 +200,7 @@ measured-read h fs links zero_texts size is m =
 -- a body that reads has no fault
 pub reads-unfaulted : (h : Here) → is_read_kind (kind h) ≡ true → ReadsHere h → first_of reading_reasons h ≡ None
 reads-unfaulted h read reads =
-    option_and_then_some (reading_by h.order (structure h).body) (layout_in (held h) (class h)) reads.0
+    option_and_then_some (reading_by h.order (structure h).body) (layout_in (entries_before h) (class h)) reads.0
     reads.1 (λ fs is by.
     layout-known h fs read is
     ∙ first_of-good_body h []
@@ -204,9 +209,9 @@ reads-unfaulted h read reads =
 
 -- what reads by the layout of its class
 pub read-described : (h : Here) (fs : List Field) (zero_texts : ℕ) → is_read_kind (kind h) ≡ true
-    → layout_in (held h) (class h) ≡ Some fs → IsReadBy h fs zero_texts → IsRead h zero_texts
+    → layout_in (entries_before h) (class h) ≡ Some fs → IsReadBy h fs zero_texts → IsRead h zero_texts
 read-described h fs zero_texts read is by =
-    let reads : reading_of h.order (held h) (structure h) ≡ Some by.reading =
+    let reads : reading_of h.order (entries_before h) (structure h) ≡ Some by.reading =
     ap (option_and_then (reading_by h.order (structure h).body)) is ∙ by.reads in
     let r = by.reading in
     let weight_is : weight h ≡ 14 + (values_length r.fields r.values + length r.tail) =
@@ -221,17 +226,18 @@ read-described h fs zero_texts read is by =
 -- ---- the weight
 
 pub weigh-unread : (h : Here) (f : Fault) → length_reason h.order h.file (place h) ≡ None
-    → is_frame_kind (kind h) ≡ true → load h + told h ≤ record_limit → first_of reading_reasons h ≡ Some f
+    → is_frame_kind (kind h) ≡ true → load h + length_there h ≤ record_limit → first_of reading_reasons h ≡ Some f
     → first_of weighing_reasons h ≡ Some f
-weigh-unread h f whole frame small fault = by (reading_of h.order (held h) (structure h)) refl
+weigh-unread h f whole frame small fault = by (reading_of h.order (entries_before h) (structure h)) refl
   where
-    by : (o : Option Reading) → reading_of h.order (held h) (structure h) ≡ o → first_of weighing_reasons h ≡ Some f
+    by : (o : Option Reading) → reading_of h.order (entries_before h) (structure h) ≡ o
+        → first_of weighing_reasons h ≡ Some f
     by (Some reading) is = absurd
         (none-some f (sym (reads-unfaulted h (frame-read (kind h) frame) (reading, is)) ∙ fault))
     by None is =
         first_of-unread_weight h reading_reasons frame whole is
         ∙ ap (λ b. option_map_or (λ (r : Reason). Some (fault_at r (place h, 0))) (cond b (Some FrameLimit) None)
-        (first_of reading_reasons h)) (le-ltb record_limit (load h + told h) small)
+        (first_of reading_reasons h)) (le-ltb record_limit (load h + length_there h) small)
         ∙ fault
 
 -- an error that is passed on is the same
@@ -268,14 +274,14 @@ record-twice h target twin =
     ∙ ap (here h) twin)
 
 pub header-twice : (h : Here) → is_target_kind (kind h) ≡ true → has_twin h.before.frame (structure h) ≡ false
-    → (is_header_kind (kind h) && has_header (held h) h.before.frame) ≡ true
+    → (is_header_kind (kind h) && has_header (entries_before h) h.before.frame) ≡ true
     → first_of record_reasons h ≡ Some (fault_at FrameHTwice (place h, 0))
 header-twice h target twin header =
     first_of-passes InstanceTwice (FrameHTwice ∷ place_reasons) h (test-InstanceTwice h target ∙ ap (here h) twin)
     ∙ first_of-holds FrameHTwice place_reasons h (place h, 0) (ap (here h) header)
 
 pub record-new : (h : Here) → is_target_kind (kind h) ≡ true → has_twin h.before.frame (structure h) ≡ false
-    → (is_header_kind (kind h) && has_header (held h) h.before.frame) ≡ false
+    → (is_header_kind (kind h) && has_header (entries_before h) h.before.frame) ≡ false
     → first_of record_reasons h ≡ first_of place_reasons h
 record-new h target twin header =
     first_of-passes InstanceTwice (FrameHTwice ∷ place_reasons) h (test-InstanceTwice h target ∙ ap (here h) twin)
@@ -312,12 +318,13 @@ bytes-told h end frames bytes =
 -- all is as it is told
 pub told-right : (h : Here) → is_file_end_kind (kind h) ≡ true → number h (codes "nFrames") ≡ h.before.frames
     → (number h (codes "nBytes") == 0 || number h (codes "nBytes") == end_of (structure h)) ≡ true
-    → first_of count_reasons h ≡ then_some (nat_lt file_limit (place h + told h)) (fault_at FileLimit (place h, 0))
+    → first_of count_reasons h
+    ≡ then_some (nat_lt file_limit (place h + length_there h)) (fault_at FileLimit (place h, 0))
 told-right h end frames bytes =
     frames-told h end frames
     ∙ first_of-passes ByteCount (FileLimit ∷ []) h (test-ByteCount h end
     ∙ ap (λ b. here_at h (field_named (elements h) (codes "nBytes")) (not b)) bytes)
-    ∙ last (nat_lt file_limit (place h + told h))
+    ∙ last (nat_lt file_limit (place h + length_there h))
   where
     last : (b : Bool) → option_map_or (λ spot. Some (fault_at FileLimit spot)) (here h b) None
         ≡ then_some b (fault_at FileLimit (place h, 0))

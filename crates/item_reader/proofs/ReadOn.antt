@@ -8,12 +8,12 @@ use Rattle.std.proofs.lemmas.Option.{same_Some}
 use Rattle.std.specs.Option.{option_map}
 use Rattle.std.specs.Result.{IsErrAnd}
 use Rattle.scalar_types.specs.declared.Order.{Order}
-use Rattle.frame_outside.specs.Shelf.{Outside, Reading, Told, reading_at, passed}
+use Rattle.frame_outside.specs.Shelf.{Outside, Reading, Told, reading_at, reading_past}
 use Rattle.frame_outside.proofs.Slots.{reading_at-pass}
 use Rattle.frame_head.specs.Header.{header_of}
 use Rattle.frame_outside.specs.SlotReader.{DrawsAtMost}
 use Rattle.frame_outside.proofs.Reading.{passes_none}
-use Rattle.structure_source.specs.Source.{Position, drawn, IsAt, Stands, GoesOn}
+use Rattle.structure_source.specs.Source.{Position, bytes_drawn, IsAt, Stands, GoesOn}
 use Rattle.file_grammar.specs.declared.fault.Fault.{Fault}
 use Rattle.file_grammar.specs.Item.{Item, Before, nothing_yet, after}
 use Rattle.file_grammar.specs.MayStand.{MayStand, Stand, Begins}
@@ -101,7 +101,7 @@ of-file_of : (outside : Outside) (slot : ℕ) (P : List ℕ → Type 0) → Told
 of-file_of outside slot P holds = of-file (reading_at outside.slots slot) P holds
 
 file-pass : (told : Option Reading) (n : ℕ)
-    → option_map (λ (reading : Reading). reading.opened) (option_map (passed n) told)
+    → option_map (λ (reading : Reading). reading.opened) (option_map (reading_past n) told)
     ≡ option_map (λ (reading : Reading). reading.opened) told
 file-pass None n = refl
 file-pass (Some reading) n = refl
@@ -357,7 +357,7 @@ begun file order r size header same before none looked =
 
 -- of a source at the beginning so many bytes were drawn as were passed and are ahead
 pub drawn-few : (old new : Outside) (slot most : ℕ) (before after : Position)
-    → before ≡ record { slot = slot; ahead = []; at = 0 } → GoesOn old new before after → drawn after ≤ most
+    → before ≡ record { slot = slot; ahead = []; at = 0 } → GoesOn old new before after → bytes_drawn after ≤ most
     → DrawsAtMost old new slot most
 drawn-few old new slot most before after is goes few =
     let on : GoesOn old new (record { slot = slot; ahead = []; at = 0 }) after =

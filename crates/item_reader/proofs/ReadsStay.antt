@@ -3,7 +3,7 @@
 use Rattle.std.proofs.Common.{◌≡◌, ℕ, zero, suc, List, [], ◌∷◌, ◌++◌, take, refl, sym, ap, subst, ◌∙◌}
 use Rattle.std.specs.Option.{option_map}
 use Rattle.frame_outside.specs.Shelf.{Outside, Reading, Slot, Source, Target, IsSource, reading_at, pass}
-use Rattle.frame_outside.specs.Shelf.{released}
+use Rattle.frame_outside.specs.Shelf.{without_slot}
 use Rattle.frame_outside.specs.Shelf.{Opens, Refuses, Passes, HandsOut, Makes, Writes, WritesPart}
 use Rattle.frame_outside.specs.Shelf.{beginning_of}
 use Rattle.frame_outside.specs.Shelf.{write, writing_begun}
@@ -88,7 +88,7 @@ pub reads-makes : (old new : Outside) (name : List ℕ) (slot : ℕ) (r : Reader
     → Reads new r
 reads-makes old new name slot r makes reads =
     let made : Slot = Target (writing_begun old.files name) in
-    reads-slots old new (released name old.slots ++ made ∷ []) r makes.slots
+    reads-slots old new (without_slot name old.slots ++ made ∷ []) r makes.slots
     (IsSource-made name old.slots made r.position.slot reads.stands.source)
     (reading_at-made name old.slots (writing_begun old.files name) r.position.slot) reads
 

@@ -83,8 +83,8 @@ pub record HasPassed (outside : Outside) (c : Cursor) (p : Placed) : Type 0 wher
   pub instance : c.instance ≡ p.instance
   pub head : InFile outside c (λ h. IsHeadOf h p)
 
--- The item that stood there was given: it was taken, its body is lent, its entry and its instance are told, the frame is
--- collected, what stands after it is as it was looked at, and the end of the file is at the file's end.
+-- The item that stood there was given: it was taken, its body is lent, its entry and its instance are told, the frame
+-- is collected, what stands after it is as it was looked at, and the end of the file is at the file's end.
 pub record Gives (h : Here) (item : Given) (new : Cursor) : Type 0 where
   pub takes : Takes h item new.state
   pub body_is : body_in (Some item) new.own.items new.state.segment ≡ body_after h takes.taken

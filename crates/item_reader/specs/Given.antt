@@ -11,7 +11,7 @@ use Rattle.file_grammar.specs.Structure.{Structure, size_of}
 use Rattle.file_grammar.specs.Kind.{is_table_kind}
 use Rattle.file_grammar.specs.Record.{layout_in}
 use Rattle.file_grammar.specs.Item.{Item, EntryItem, OtherItem, dictionary_after}
-use Rattle.file_grammar.specs.Fault.{Here, held, kind, number}
+use Rattle.file_grammar.specs.Fault.{Here, entries_before, kind, number}
 
 -- what is given of a structure of a kind; a record has its number in the frame, from 0
 abbrev pub TellsKind : Kind → Here → Structure → Given → Type 0
@@ -28,14 +28,17 @@ TellsKind kind h s item = ⊥
 -- what is given of an item; an entry changed the dictionary, or it did not
 abbrev pub Tells : Here → Item → Given → Type 0
 Tells h (EntryItem head run entry) (given.Entry at class changed) =
-    (at ≡ head.at) × (class ≡ entry.class) × (IsTrue changed ↔ (dictionary_after (held h) entry ≢ held h))
+    (at ≡ head.at) × (class ≡ entry.class)
+    × (IsTrue changed ↔ (dictionary_after (entries_before h) entry ≢ entries_before h))
 Tells h (EntryItem head run entry) item = ⊥
 Tells h (OtherItem s) item = TellsKind (kind h) h s item
 
--- The body that is lent after an item: none after an entry, and none after a contents table whose layout is not readable.
+-- The body that is lent after an item: none after an entry, and none after a contents table whose layout is not
+-- readable.
 abbrev pub body_after : Here → Item → List ℕ
 body_after h (EntryItem head run entry) = []
-body_after h (OtherItem s) = if is_table_kind (kind h) && is_none (layout_in (held h) s.class) then [] else s.body
+body_after h (OtherItem s) =
+    if is_table_kind (kind h) && is_none (layout_in (entries_before h) s.class) then [] else s.body
 
 -- the entry that an item is, as it was read
 abbrev pub entry_given : Item → Option Entry
@@ -49,11 +52,11 @@ instance_given (OtherItem s) = s.instance
 
 -- the entry of a class that a dictionary holds, none of a class above 255
 abbrev pub entry_within : List Entry → ℕ → Option Entry
-entry_within held class = if nat_lt 255 class then None else entry_of held class
+entry_within entries_before class = if nat_lt 255 class then None else entry_of entries_before class
 
 -- the entry that is lent after an item: one that changed the dictionary stands in it, any other is kept apart
 abbrev pub entry_in : Option Given → Option Entry → List Entry → Option Entry
-entry_in None kept held = None
-entry_in (Some (given.Entry at class true)) kept held = entry_within held class
-entry_in (Some (given.Entry at class false)) kept held = kept
-entry_in (Some item) kept held = None
+entry_in None kept entries_before = None
+entry_in (Some (given.Entry at class true)) kept entries_before = entry_within entries_before class
+entry_in (Some (given.Entry at class false)) kept entries_before = kept
+entry_in (Some item) kept entries_before = None

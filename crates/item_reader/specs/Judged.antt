@@ -25,7 +25,7 @@ use Rattle.file_grammar.specs.Kind.{is_frame_kind, is_file_end_kind}
 use Rattle.file_grammar.specs.Record.{Reading, reading_by, reading_of, layout_in}
 use Rattle.file_grammar.specs.Described.{longest_run, entry_from}
 use Rattle.file_grammar.specs.Item.{Item, after as after_item}
-use Rattle.file_grammar.specs.Fault.{Here, told, held, kind, structure, weight, first_of, fault_here}
+use Rattle.file_grammar.specs.Fault.{Here, length_there, entries_before, kind, structure, weight, first_of, fault_here}
 use Rattle.file_grammar.specs.Steps.{item_here}
 use Rattle.item_reader.specs.declared.item.Item.{Item as Given}
 use Rattle.item_reader.specs.declared.item.Item.TheVariants as given
@@ -43,7 +43,7 @@ InEachFile s p body P = (file : List ℕ) → StandsIn s.segment.order s.at p bo
 
 -- its body reads by the layout of its class
 abbrev pub ReadsHere : Here → Type 0
-ReadsHere h = (reading : Reading) × (reading_of h.order (held h) (structure h) ≡ Some reading)
+ReadsHere h = (reading : Reading) × (reading_of h.order (entries_before h) (structure h) ≡ Some reading)
 
 -- the kinds whose layouts the dictionary describes, and that are read
 abbrev pub is_read_kind : Kind → Bool
@@ -102,13 +102,13 @@ pub record IsReadBy (h : Here) (fields : List Field) (zero_texts : ℕ) : Type 0
   pub reading : Reading
   pub reads : reading_by h.order (structure h).body fields ≡ Some reading
   pub none : first_of body_reasons h ≡ None
-  pub weight_is : told h + zero_texts ≡ 14 + (values_length reading.fields reading.values + length reading.tail)
+  pub weight_is : length_there h + zero_texts ≡ 14 + (values_length reading.fields reading.values + length reading.tail)
 
 -- the same by the layout of its class
 pub record IsRead (h : Here) (zero_texts : ℕ) : Type 0 where
   pub reads : ReadsHere h
   pub none : first_of reading_reasons h ≡ None
-  pub weight_is : told h + zero_texts ≡ weight h
+  pub weight_is : length_there h + zero_texts ≡ weight h
 
 -- the record's weight is within the limits
 pub record IsWeighed (h : Here) (told_weight : ℕ) : Type 0 where
@@ -145,7 +145,7 @@ pub record Holds (old : State) (entry : Entry) (changed : Bool) (new : State) : 
 
 -- what is kept beside a dictionary that is given an entry: the entry, where that does not change the dictionary
 abbrev pub IsBeside : List Entry → Entry → Option Entry → Type 0
-IsBeside held entry kept = step held entry ≡ Ok held → kept ≡ Some entry
+IsBeside entries_before entry kept = step entries_before entry ≡ Ok entries_before → kept ≡ Some entry
 
 -- what holding it answers at a place where it stands
 abbrev pub AnswersHolding : Here → Result Bool ReadError → Type 0
@@ -190,7 +190,7 @@ pub record IsOpenStill (old new : State) : Type 0 where
 
 -- the node of a structure
 abbrev pub node_by : List Entry → Placed → Node
-node_by held p = node_of held (structure_by p [])
+node_by entries_before p = node_of entries_before (structure_by p [])
 
 -- A frame has ended: its records are those that were open, with the end record, and a breadth-first order goes with it.
 pub record EndsFrame (old : State) (p : Placed) (new : State) : Type 0 where

@@ -8,7 +8,7 @@ use Rattle.layout_plan.specs.Plans.{plan_of}
 use Rattle.rooted_graph.specs.BreadthOrder.{IsBreadthOrder}
 use Rattle.link_graph.specs.Collected.{Collected}
 use Rattle.link_graph.specs.Graph.{Layouts, graph_of}
-use Rattle.structure_source.specs.Source.{Position, Stands, drawn}
+use Rattle.structure_source.specs.Source.{Position, Stands, bytes_drawn}
 use Rattle.file_grammar.specs.declared.fault.Fault.{Fault}
 use Rattle.file_grammar.specs.Structure.{Structure}
 use Rattle.file_grammar.specs.Record.{layout_in}
@@ -147,7 +147,7 @@ pub record Goes (file : List ℕ) (old : Reader) (item : Given) (new : Reader) :
 
 -- the bytes drawn of the file reach no further than the look of the place
 abbrev pub DrawsNoFurther : List ℕ → Reader → Type 0
-DrawsNoFurther file r = drawn r.position ≤ look r.order file r.before.place
+DrawsNoFurther file r = bytes_drawn r.position ≤ look r.order file r.before.place
 
 -- A look reaches at least 65,550 bytes beyond its place.
 abbrev pub LooksReachBeyond : Type 0

@@ -78,8 +78,8 @@ pub record AreBuiltIn (s : State) : Type 0 where
   pub structure : s.built_in.structure ≡ structure_fields
   pub element : s.built_in.element ≡ element_fields
 
--- The plans are those of the dictionary's entries, by which the records of the segment read; the segment is the open frame,
--- or the one that has ended; and the numbers are within their limits.
+-- The plans are those of the dictionary's entries, by which the records of the segment read; the segment is the open
+-- frame, or the one that has ended; and the numbers are within their limits.
 pub record IsSound (s : State) : Type 0 where
   pub low : s.at ≤ file_limit
   pub header : 40 ≤ s.at

@@ -5,7 +5,7 @@ ghost use Rattle.std.specs.Prelude.{◌≡◌, ◌+◌, ◌-◌, ◌<◌, ◌≤
 ghost use Rattle.std.specs.Prelude.{IfOk, OnOk, OnErr, IsOk, IsSome};
 ghost use Rattle.frame_outside.specs.Counts.{Rose};
 ghost use Rattle.structure_source.specs.declared.source.Head.TheVariants as head;
-ghost use Rattle.structure_source.specs.Source.{Stands, GoesOn, IsHead, drawn};
+ghost use Rattle.structure_source.specs.Source.{Stands, GoesOn, IsHead, bytes_drawn};
 ghost use Rattle.file_grammar.specs.declared.fault.Fault.{Fault};
 ghost use Rattle.file_grammar.specs.declared.kind.Kind.TheVariants as variant;
 ghost use Rattle.file_grammar.specs.Structure.{record_limit};
@@ -64,7 +64,7 @@ impl Cursor {
         ensures stands { Stands (S.outside shelf.new) self.new.source }
         ensures on { GoesOn (S.outside shelf.old) (S.outside shelf.new) self.old.source self.new.source }
         ensures ahead { OnErr result (InFile (S.outside shelf.old) self.old
-            (λ h. IsWithinLook h.order h.file h.before.place (drawn self.new.source))) }
+            (λ h. IsWithinLook h.order h.file h.before.place (bytes_drawn self.new.source))) }
     {
         self.state.open_frame();
         let common = self.head(shelf)?;
@@ -92,7 +92,7 @@ impl Cursor {
         ensures stands { Stands (S.outside shelf.new) self.new.source }
         ensures on { GoesOn (S.outside shelf.old) (S.outside shelf.new) self.old.source self.new.source }
         ensures ahead { OnErr result (InFile (S.outside shelf.old) self.old
-            (λ h. IsWithinLook h.order h.file h.before.place (drawn self.new.source))) }
+            (λ h. IsWithinLook h.order h.file h.before.place (bytes_drawn self.new.source))) }
     {
         // The others are kept out of line: a plain record then does not pay for the room that they need.
         match self.state.dictionary.kind(placed.class) {
@@ -120,7 +120,7 @@ impl Cursor {
         ensures stands { Stands (S.outside shelf.new) self.new.source }
         ensures on { GoesOn (S.outside shelf.old) (S.outside shelf.new) self.old.source self.new.source }
         ensures ahead { InFile (S.outside shelf.old) self.old
-            (λ h. drawn self.new.source ≤ look h.order h.file h.before.place) }
+            (λ h. bytes_drawn self.new.source ≤ look h.order h.file h.before.place) }
     {
         match self.looked {
             Looked::Seen(common) => {
@@ -155,7 +155,7 @@ impl Cursor {
         ensures stands { Stands (S.outside shelf.new) self.new.source }
         ensures on { GoesOn (S.outside shelf.old) (S.outside shelf.new) self.old.source self.new.source }
         ensures ahead { OnErr result (InFile (S.outside shelf.old) self.old
-            (λ h. IsWithinLook h.order h.file h.before.place (drawn self.new.source))) }
+            (λ h. IsWithinLook h.order h.file h.before.place (bytes_drawn self.new.source))) }
     {
         self.bring_own(shelf, head)?;
         let mut entry = self.begin_entry(head)?;
@@ -218,7 +218,7 @@ impl Cursor {
         ensures stands { Stands (S.outside shelf.new) self.new.source }
         ensures on { GoesOn (S.outside shelf.old) (S.outside shelf.new) self.old.source self.new.source }
         ensures ahead { OnErr result (InFile (S.outside shelf.old) self.old
-            (λ h. IsWithinLook h.order h.file h.before.place (drawn self.new.source))) }
+            (λ h. IsWithinLook h.order h.file h.before.place (bytes_drawn self.new.source))) }
     {
         self.bring_own(shelf, element)?;
         Err(self.state.stray_fault(element, self.own.as_slice()).into())
@@ -241,7 +241,7 @@ impl Cursor {
         ensures stands { Stands (S.outside shelf.new) self.new.source }
         ensures on { GoesOn (S.outside shelf.old) (S.outside shelf.new) self.old.source self.new.source }
         ensures ahead { OnErr result (InFile (S.outside shelf.old) self.old
-            (λ h. IsWithinLook h.order h.file h.before.place (drawn self.new.source))) }
+            (λ h. IsWithinLook h.order h.file h.before.place (bytes_drawn self.new.source))) }
     {
         if let Some(fault) = self.state.table_fault(table) {
             return Err(self.pass_over(shelf, table, fault));
@@ -267,7 +267,7 @@ impl Cursor {
         ensures stands { Stands (S.outside shelf.new) self.new.source }
         ensures on { GoesOn (S.outside shelf.old) (S.outside shelf.new) self.old.source self.new.source }
         ensures ahead { OnErr result (InFile (S.outside shelf.old) self.old
-            (λ h. IsWithinLook h.order h.file h.before.place (drawn self.new.source))) }
+            (λ h. IsWithinLook h.order h.file h.before.place (bytes_drawn self.new.source))) }
     {
         self.bring_own(shelf, end)?;
         let item = self.state.take_file_end(end, self.own.as_slice())?;
@@ -294,7 +294,7 @@ impl Cursor {
         ensures stands { Stands (S.outside shelf.new) self.new.source }
         ensures on { GoesOn (S.outside shelf.old) (S.outside shelf.new) self.old.source self.new.source }
         ensures ahead { OnErr result (InFile (S.outside shelf.old) self.old
-            (λ h. IsWithinLook h.order h.file h.before.place (drawn self.new.source))) }
+            (λ h. IsWithinLook h.order h.file h.before.place (bytes_drawn self.new.source))) }
     {
         self.bring_record(shelf, placed)?;
         let alloc = *self.own.allocator();
@@ -324,7 +324,7 @@ impl Cursor {
         ensures stands { Stands (S.outside shelf.new) self.new.source }
         ensures on { GoesOn (S.outside shelf.old) (S.outside shelf.new) self.old.source self.new.source }
         ensures ahead { OnErr result (InFile (S.outside shelf.old) self.old
-            (λ h. IsWithinLook h.order h.file h.before.place (drawn self.new.source))) }
+            (λ h. IsWithinLook h.order h.file h.before.place (bytes_drawn self.new.source))) }
     {
         self.bring_record(shelf, placed)?;
         self.state.take_record(placed, kind)
@@ -355,7 +355,7 @@ impl Cursor {
         ensures stands { Stands (S.outside shelf.new) self.new.source }
         ensures on { GoesOn (S.outside shelf.old) (S.outside shelf.new) self.old.source self.new.source }
         ensures ahead { InFile (S.outside shelf.old) self.old
-            (λ h. drawn self.new.source ≤ look h.order h.file h.before.place) }
+            (λ h. bytes_drawn self.new.source ≤ look h.order h.file h.before.place) }
     {
         if self.state.is_overfull(placed) {
             let fault = self.state.fault(Reason::FrameLimit);
@@ -388,7 +388,7 @@ impl Cursor {
         ensures stands { Stands (S.outside shelf.new) self.new.source }
         ensures on { GoesOn (S.outside shelf.old) (S.outside shelf.new) self.old.source self.new.source }
         ensures ahead { InFile (S.outside shelf.old) self.old
-            (λ h. drawn self.new.source ≤ look h.order h.file h.before.place) }
+            (λ h. bytes_drawn self.new.source ≤ look h.order h.file h.before.place) }
     {
         let size = body_size(placed);
         let whole = self
@@ -415,7 +415,7 @@ impl Cursor {
         ensures stands { Stands (S.outside shelf.new) self.new.source }
         ensures on { GoesOn (S.outside shelf.old) (S.outside shelf.new) self.old.source self.new.source }
         ensures ahead { InFile (S.outside shelf.old) self.old
-            (λ h. drawn self.new.source ≤ look h.order h.file h.before.place) }
+            (λ h. bytes_drawn self.new.source ≤ look h.order h.file h.before.place) }
     {
         self.own.clear();
         let size = body_size(placed);
@@ -441,7 +441,7 @@ impl Cursor {
         ensures stands { Stands (S.outside shelf.new) self.new.source }
         ensures on { GoesOn (S.outside shelf.old) (S.outside shelf.new) self.old.source self.new.source }
         ensures ahead { InFile (S.outside shelf.old) self.old
-            (λ h. drawn self.new.source ≤ look h.order h.file h.before.place) }
+            (λ h. bytes_drawn self.new.source ≤ look h.order h.file h.before.place) }
     {
         if self.state.plans.plan(table.class).is_some() {
             return self.bring_own(shelf, table);
@@ -464,7 +464,7 @@ impl Cursor {
         ensures stands { Stands (S.outside shelf.new) self.new.source }
         ensures on { GoesOn (S.outside shelf.old) (S.outside shelf.new) self.old.source self.new.source }
         ensures ahead { InFile (S.outside shelf.old) self.old
-            (λ h. drawn self.new.source ≤ look h.order h.file h.before.place) }
+            (λ h. bytes_drawn self.new.source ≤ look h.order h.file h.before.place) }
     {
         if !self.source.skip(shelf, body_size(placed))? {
             return Err(self.state.fault(Reason::CutRecord).into());
@@ -484,7 +484,7 @@ impl Cursor {
         ensures stands { Stands (S.outside shelf.new) self.new.source }
         ensures on { GoesOn (S.outside shelf.old) (S.outside shelf.new) self.old.source self.new.source }
         ensures ahead { InFile (S.outside shelf.old) self.old
-            (λ h. drawn self.new.source ≤ look h.order h.file h.before.place) }
+            (λ h. bytes_drawn self.new.source ≤ look h.order h.file h.before.place) }
     {
         match self.pass(shelf, placed) {
             Ok(()) => fault.into(),

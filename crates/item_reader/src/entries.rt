@@ -7,7 +7,7 @@ ghost use Rattle.std.specs.Prelude.{◌≡◌, ◌≢◌, ◌+◌, ◌≤◌, �
 ghost use Rattle.std.specs.Prelude.{IfOk};
 ghost use Rattle.frame_outside.specs.Counts.{Rose};
 ghost use Rattle.frame_outside.specs.Shelf.{Told, reading_at};
-ghost use Rattle.structure_source.specs.Source.{Stands, GoesOn, drawn};
+ghost use Rattle.structure_source.specs.Source.{Stands, GoesOn, bytes_drawn};
 ghost use Rattle.dictionary.specs.Same.{IsRead, AreRead};
 ghost use Rattle.layout_plan.specs.Body.{HasBody};
 ghost use Rattle.layout_plan.specs.BuiltIn.{structure_fields, element_fields};
@@ -80,7 +80,7 @@ pub fn read_run<S: Shelf>(
     ensures stands { Stands (S.outside shelf.new) source.new }
     ensures on { GoesOn (S.outside shelf.old) (S.outside shelf.new) source.old source.new }
     ensures bounded { Told (reading_at (S.outside shelf.old).slots source.old.slot)
-        (λ reading. drawn source.new
+        (λ reading. bytes_drawn source.new
         ≤ look order reading.opened (end_from order reading.opened source.old.at)) }
 {
     let mut elements = ElementList::new(alloc);
@@ -122,7 +122,7 @@ fn next_element<S: Shelf>(
     ensures stands { Stands (S.outside shelf.new) source.new }
     ensures on { GoesOn (S.outside shelf.old) (S.outside shelf.new) source.old source.new }
     ensures bounded { Told (reading_at (S.outside shelf.old).slots source.old.slot)
-        (λ reading. drawn source.new ≤ look order reading.opened source.old.at) }
+        (λ reading. bytes_drawn source.new ≤ look order reading.opened source.old.at) }
 {
     let at = source.place();
     let common = match source.head(shelf, order)? {

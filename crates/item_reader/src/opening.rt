@@ -3,7 +3,7 @@
 ghost use Rattle.std.specs.Prelude.{◌≡◌, ◌+◌, ◌≤◌, ℕ, Ok, Err, [], take, length, IfOk};
 ghost use Rattle.frame_outside.specs.Counts.{Rose};
 ghost use Rattle.frame_outside.specs.Shelf.{Told, reading_at};
-ghost use Rattle.structure_source.specs.Source.{Stands, GoesOn, drawn};
+ghost use Rattle.structure_source.specs.Source.{Stands, GoesOn, bytes_drawn};
 ghost use Rattle.frame_head.specs.Header.{header_of};
 ghost use Rattle.file_grammar.specs.declared.fault.Fault.{Fault};
 ghost use Rattle.file_grammar.specs.Fault.{IsHeaderFault, fault_at};
@@ -31,7 +31,7 @@ pub fn read_order<S: Shelf>(source: &mut StructureSource, shelf: &mut S) -> Resu
         → Rose (S.outside shelf.old).faults (S.outside shelf.new).faults }
     ensures stands { Stands (S.outside shelf.new) source.new }
     ensures on { GoesOn (S.outside shelf.old) (S.outside shelf.new) source.old source.new }
-    ensures few { drawn source.new ≤ 65576 }
+    ensures few { bytes_drawn source.new ≤ 65576 }
 {
     let mut header = [0; HEADER_SIZE];
     let read = source.fill(shelf, &mut header)?;

@@ -6,7 +6,7 @@ ghost use Rattle.std.specs.Option.{option_copied};
 ghost use Rattle.frame_outside.specs.Counts.{Rose};
 ghost use Rattle.frame_outside.specs.Shelf.{Told, IsSource, reading_at};
 ghost use Rattle.frame_outside.specs.SlotReader.{DrawsAtMost};
-ghost use Rattle.structure_source.specs.Source.{GoesOn, drawn};
+ghost use Rattle.structure_source.specs.Source.{GoesOn, bytes_drawn};
 ghost use Rattle.layout_plan.specs.Plans.{plan_of};
 ghost use Rattle.link_graph.specs.Collected.{Becomes, nothing_in};
 ghost use Rattle.link_graph.specs.Graph.{Layouts, ReadsBy};
@@ -145,7 +145,7 @@ impl ItemReader {
             self.new.position }
         ensures ahead { OnErr result (self.old.error ≡ None
             → Told (file_of (S.outside shelf.old) self.old.position.slot) (λ file.
-            IsWithinLook self.old.order file self.old.before.place (drawn self.new.position))) }
+            IsWithinLook self.old.order file self.old.before.place (bytes_drawn self.new.position))) }
 
         // What is given again, and from when on.
         ensures error_again { (error : ReadError) → self.old.error ≡ Some error → (result ≡ Err error)

@@ -14,7 +14,7 @@ ghost use Rattle.file_grammar.specs.Structure.{record_limit, file_limit};
 ghost use Rattle.file_grammar.specs.Kind.{kind_of, is_frame_kind, is_table_kind};
 ghost use Rattle.file_grammar.specs.Record.{layout_in, reading_of, reading_by};
 ghost use Rattle.file_grammar.specs.Closing.{closes, has_named, is_count, field_named};
-ghost use Rattle.file_grammar.specs.Fault.{is_empty, fields, elements, number, place, told, fault_at, first_of};
+ghost use Rattle.file_grammar.specs.Fault.{is_empty, fields, elements, number, place, length_there, fault_at, first_of};
 ghost use Rattle.file_grammar.specs.Fault.{fault_here};
 ghost use Rattle.file_grammar.specs.Steps.{reason_of};
 ghost use Rattle.item_reader.specs.Placed.{IsStructureAt, structure_by};

@@ -25,7 +25,8 @@ use Rattle.layout_plan.specs.Body.{IsField, AreFields, IsTail, IsBody, HasBody}
 use Rattle.layout_plan.specs.BodyLaws.{FaultOrBody, BodiesAreUnique}
 use Rattle.std.specs.Result.{result_err}
 use Rattle.layout_plan.specs.Reading.{Found, and_then, found_map, number_in, pair_in, text_in, link_in, items_in}
-use Rattle.layout_plan.specs.Reading.{single_in, listed_in, field_in, at_field, fields_in, ended, body_in, fault_of}
+use Rattle.layout_plan.specs.Reading.{single_in, listed_in, field_in, at_field, fields_in, whole_body, body_in}
+use Rattle.layout_plan.specs.Reading.{fault_of}
 use Rattle.layout_plan.specs.Exact.{IsExact}
 use Rattle.layout_plan.proofs.ExactLemmas.{Ok-same, and_then-Ok, exact-as, found_map-exact, and_then-exact, Follows}
 use Rattle.layout_plan.proofs.ExactLemmas.{nothing-exact, number_in-exact, pair_in-exact, text_in-exact, link_in-exact}
@@ -257,7 +258,7 @@ or-right false = refl
 choice : Bool → ℕ → List Value × List ℕ → Result (List Value × List ℕ) BodyFault
 choice b n x = if b then Ok x else Err (record { field = n; reason = BodyLong })
 
-ended-choice : (n : ℕ) (x : List Value × List ℕ) → ended n x ≡ choice (tail_ends (length x.1)) n x
+ended-choice : (n : ℕ) (x : List Value × List ℕ) → whole_body n x ≡ choice (tail_ends (length x.1)) n x
 unfolding choice tail_ends
 ended-choice n x = refl
 
@@ -266,12 +267,12 @@ unfolding tail_ends
 tail_ends-true n (inl e) = ap (λ b. b || n == 4) (eq-eqb n 0 e)
 tail_ends-true n (inr e) = ap (λ b. n == 0 || b) (eq-eqb n 4 e) ∙ or-right (n == 0)
 
-pub ended-Ok : (n : ℕ) (x : List Value × List ℕ) → IsTail x.1 → ended n x ≡ Ok x
+pub ended-Ok : (n : ℕ) (x : List Value × List ℕ) → IsTail x.1 → whole_body n x ≡ Ok x
 unfolding choice
 ended-Ok n x t = ended-choice n x ∙ ap (λ b. choice b n x) (tail_ends-true (length x.1) t)
 
 ended-Err-at : (n : ℕ) (x : List Value × List ℕ) → tail_ends (length x.1) ≡ false
-    → ended n x ≡ Err (record { field = n; reason = BodyLong })
+    → whole_body n x ≡ Err (record { field = n; reason = BodyLong })
 unfolding choice
 ended-Err-at n x t = ended-choice n x ∙ ap (λ b. choice b n x) t
 
@@ -280,7 +281,7 @@ unfolding tail_ends
 tail_ends-false n some other = ap (λ b. b || n == 4) (ne_eqb n 0 some) ∙ ne_eqb n 4 other
 
 pub ended-Err : (n : ℕ) (x : List Value × List ℕ) → (length x.1 ≡ 0 → ⊥) → (length x.1 ≡ 4 → ⊥)
-    → ended n x ≡ Err (record { field = n; reason = BodyLong })
+    → whole_body n x ≡ Err (record { field = n; reason = BodyLong })
 ended-Err n x some other = ended-Err-at n x (tail_ends-false (length x.1) some other)
 
 tail_ends-tells : (n : ℕ) → tail_ends n ≡ true → (n ≡ 0) ⊎ (n ≡ 4)
@@ -288,7 +289,7 @@ unfolding tail_ends
 tail_ends-tells n e = elim (or_cases (n == 0) (n == 4) e)
     [ inl a ↦ inl (eqb-true n 0 a) | inr b ↦ inr (eqb-true n 4 b) ]
 
-pub ended-tail : (n : ℕ) (x y : List Value × List ℕ) → ended n x ≡ Ok y → IsTail x.1 × (x ≡ y)
+pub ended-tail : (n : ℕ) (x y : List Value × List ℕ) → whole_body n x ≡ Ok y → IsTail x.1 × (x ≡ y)
 unfolding choice
 ended-tail n x y e = by (tail_ends (length x.1)) refl (sym (ended-choice n x) ∙ e)
   where
@@ -302,7 +303,7 @@ pub body_in-found : (order : Order) (fields : List Field) → AreSound 0 fields
     → IsBody order fields values tail bytes
 unfolding body_in
 body_in-found order fields h bytes values tail e =
-    let m = and_then-Ok (fields_in order [] fields bytes) (ended (length fields)) (values, tail) e in
+    let m = and_then-Ok (fields_in order [] fields bytes) (whole_body (length fields)) (values, tail) e in
     let t = ended-tail (length fields) m.0 (values, tail) m.2 in
     let g = (fields_in-exact order [] fields h).found bytes m.0 m.1 in
     subst (λ (x : List Value × List ℕ). IsBody order fields x.0 x.1 bytes) t.1
@@ -313,8 +314,8 @@ pub body_in-again : (order : Order) (fields : List Field) → AreSound 0 fields
     → body_in order fields bytes ≡ Ok (values, tail)
 unfolding body_in
 body_in-again order fields h bytes values tail b =
-    ap (λ bytes. and_then (fields_in order [] fields bytes) (ended (length fields))) b.split
-    ∙ ap (λ r. and_then r (ended (length fields)))
+    ap (λ bytes. and_then (fields_in order [] fields bytes) (whole_body (length fields))) b.split
+    ∙ ap (λ r. and_then r (whole_body (length fields)))
     ((fields_in-exact order [] fields h).again values b.front tail b.spelled)
     ∙ ended-Ok (length fields) (values, tail) b.ends
 

@@ -27,7 +27,7 @@ use Rattle.layout_plan.specs.Body.{number_of, item_count, AreFields, IsTail}
 use Rattle.layout_plan.specs.BodyLaws.{BeginsWith, IsCutOff, StopsAt, GoesOn, HasFault, FaultsAreTold}
 use Rattle.layout_plan.specs.Reading.{Found, and_then, found_map, bytes_in, number_in, pair_in, closed_text}
 use Rattle.layout_plan.specs.Reading.{text_of_length, text_in, link_in, items_in, single_in, listed_in, field_in}
-use Rattle.layout_plan.specs.Reading.{at_field, fields_in, ended, body_in}
+use Rattle.layout_plan.specs.Reading.{at_field, fields_in, whole_body, body_in}
 use Rattle.layout_plan.proofs.ExactLemmas.{Ok-same, bytes_in-enough, bytes_in-few, and_then-Ok, found_map-Ok}
 use Rattle.layout_plan.proofs.BodyLemmas.{field_in-exact, fields_in-exact, ended-Ok, ended-Err}
 use Rattle.layout_plan.proofs.ReadingLemmas.{fields_in-stops, fields_in-length}
@@ -472,7 +472,7 @@ stop-told order fields bytes fault sound s =
     }
 
 long-told : (order : Order) (fields : List Field) (bytes : List ℕ) (fault : BodyFault) (x : List Value × List ℕ)
-    → AreSound 0 fields → fields_in order [] fields bytes ≡ Ok x → ended (length fields) x ≡ Err fault
+    → AreSound 0 fields → fields_in order [] fields bytes ≡ Ok x → whole_body (length fields) x ≡ Err fault
     → HasFault order fields bytes fault.field fault.reason
 long-told order fields bytes fault x sound e h =
     subst (λ (fault : BodyFault). HasFault order fields bytes fault.field fault.reason)
@@ -483,7 +483,7 @@ long-told order fields bytes fault x sound e h =
     g = (fields_in-exact order [] fields sound).found bytes x e
 
     no_tail : IsTail x.1 → ⊥
-    no_tail t = Ok-Err (ended (length fields) x) x fault (ended-Ok (length fields) x t) h
+    no_tail t = Ok-Err (whole_body (length fields) x) x fault (ended-Ok (length fields) x t) h
 
     same : ◌≡◌ {A = Result (List Value × List ℕ) BodyFault} (Err (record { field = length fields; reason = BodyLong }))
         (Err fault) → record { field = length fields; reason = BodyLong } ≡ fault
@@ -493,7 +493,7 @@ body-told : (order : Order) (fields : List Field) (bytes : List ℕ) (fault : Bo
     → body_in order fields bytes ≡ Err fault → HasFault order fields bytes fault.field fault.reason
 unfolding body_in
 body-told order fields bytes fault sound e =
-    elim (and_then-Err (fields_in order [] fields bytes) (ended (length fields)) fault e) [
+    elim (and_then-Err (fields_in order [] fields bytes) (whole_body (length fields)) fault e) [
       | inl first ↦ stop-told order fields bytes fault sound (fields_in-stop order [] fields bytes fault first)
       | inr then ↦ long-told order fields bytes fault then.0 sound then.1 then.2
     ]
@@ -538,8 +538,8 @@ long-found : (order : Order) (fields : List Field) (bytes : List ℕ) (k : ℕ) 
     → body_in order fields bytes ≡ Err (record { field = k; reason = BodyLong })
 unfolding body_in
 long-found order fields bytes k sound s is =
-    ap (λ bytes. and_then (fields_in order [] fields bytes) (ended (length fields))) s.split
-    ∙ ap (λ r. and_then r (ended (length fields)))
+    ap (λ bytes. and_then (fields_in order [] fields bytes) (whole_body (length fields))) s.split
+    ∙ ap (λ r. and_then r (whole_body (length fields)))
     ((fields_in-exact order [] fields sound).again s.values s.front s.rest s.spelled)
     ∙ ended-Err (length fields) (s.values, s.rest) (λ none. s.no_tail (inl none)) (λ four. s.no_tail (inr four))
     ∙ ap (λ k. Err (fault k)) (sym is)

@@ -21,9 +21,10 @@ use Rattle.layout_plan.specs.declared.walking.Walked.{Walked}
 use Rattle.layout_plan.specs.declared.lent.Placed.{Placed}
 use Rattle.layout_plan.specs.Layout.{AreSound, IsEarlier}
 use Rattle.layout_plan.specs.Body.{number_of, AreFields, IsBody, HasBody}
-use Rattle.layout_plan.specs.Reading.{number_in, text_in, link_in, field_in, fields_in, ended, body_in}
+use Rattle.layout_plan.specs.Reading.{number_in, text_in, link_in, field_in, fields_in, whole_body, body_in}
 use Rattle.layout_plan.specs.Walking.{number_at, IsReached, TellsReached}
-use Rattle.layout_plan.specs.Lent.{HasNumberAt, HasTextAt, HasPlainLinkAt, IsNumberField, IsTextField, IsLinkField, IsPlaced}
+use Rattle.layout_plan.specs.Lent.{HasNumberAt, HasTextAt, HasPlainLinkAt, IsNumberField, IsTextField, IsLinkField}
+use Rattle.layout_plan.specs.Lent.{IsPlaced}
 use Rattle.record_values.specs.Spelling.{IsText}
 use Rattle.layout_plan.proofs.ExactLemmas.{Ok-same, and_then-Ok, found_map-Ok, text_in-exact}
 use Rattle.layout_plan.proofs.BodyLemmas.{field_in-exact, fields_in-exact, body_in-again, ended-tail, IsField-earlier}
@@ -71,7 +72,7 @@ body-fields : (order : Order) (fields : List Field) → AreSound 0 fields
     → fields_in order [] fields bytes ≡ Ok (values, tail)
 unfolding body_in
 body-fields order fields sound bytes values tail body =
-    let m = and_then-Ok (fields_in order [] fields bytes) (ended (length fields)) (values, tail)
+    let m = and_then-Ok (fields_in order [] fields bytes) (whole_body (length fields)) (values, tail)
     (body_in-again order fields sound bytes values tail body) in
     m.1 ∙ ap Ok (ended-tail (length fields) m.0 (values, tail) m.2).1
 

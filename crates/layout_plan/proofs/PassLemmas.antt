@@ -17,7 +17,8 @@ use Rattle.layout_plan.specs.Layout.{IsEarlier, AreSound}
 use Rattle.layout_plan.specs.Marks.{product_by, mark_of, end_of, place_of}
 use Rattle.layout_plan.specs.Walking.{IsReached, IsWalked, ArePlaces}
 use Rattle.layout_plan.specs.declared.marks.Mark.{Mark}
-use Rattle.layout_plan.specs.Steps.{items_of, counter_of, counters_of, counter_value, counted_by, counted, number_by}
+use Rattle.layout_plan.specs.Steps.{items_of, counter_of, counters_of, counter_value, counted_by, count_of_number}
+use Rattle.layout_plan.specs.Steps.{number_by}
 use Rattle.layout_plan.specs.Steps.{no_step, IsStep, AreRepeats}
 use Rattle.std.proofs.lemmas.Bool.{false≢true}
 use Rattle.layout_plan.proofs.SpelledLemmas.{capped-product}
@@ -79,7 +80,7 @@ counter-stays : (order : Order) (fields : List Field) (body ends : List ℕ) (va
 counter-stays order fields body ends varied at k i signed lt le =
     let mark = mark_of fields i in
     let c = counter_of fields i signed in
-    ap (λ end. counted signed (number_by order c.width (drop (end + mark.skip) body)))
+    ap (λ end. count_of_number signed (number_by order c.width (drop (end + mark.skip) body)))
     (end_of-stays ends varied at mark.varied
     (omega (arith, IsLater-varied mark (mark_of fields k) (mark_of-later fields i k (omega arith)))))
 

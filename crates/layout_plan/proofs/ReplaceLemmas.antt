@@ -12,7 +12,7 @@ use Rattle.type_text.specs.declared.types.Link.{Link as StructLink}
 use Rattle.record_values.specs.declared.values.Value.{Value}
 use Rattle.record_values.specs.declared.values.Value.TheVariants as value
 use Rattle.record_values.specs.Spelling.{IsLink, AreItems}
-use Rattle.record_values.specs.Links.{links_of, links_in, linked_value, linked}
+use Rattle.record_values.specs.Links.{links_of, links_in, linked_value, with_links}
 use Rattle.record_values.proofs.LinkedLemmas.{linked_value-numbers, linked-at}
 use Rattle.layout_plan.specs.declared.fields.Form.{Form}
 use Rattle.layout_plan.specs.declared.fields.Form.TheVariants.{Number, Pair, Text, Link}
@@ -206,7 +206,7 @@ body-replaced : (order : Order) (fields : List Field) (bytes tail : List ℕ) (v
     → AreFields order (map number_of values) (take i fields) (take i values) (take start bytes) → start ≤ length bytes
     → slice_get fields i ≡ Some f → is_link f ≡ true → slice_get values i ≡ Some v → n < length (links_of v)
     → k ≡ length (links_in (take i values)) + n → (link : StructLink) (six : List ℕ) → IsLink order link six
-    → IsBody order fields (linked values (slice_set (links_in values) k link)) tail
+    → IsBody order fields (with_links values (slice_set (links_in values) k link)) tail
     (take (start + n * 6) bytes ++ six ++ drop (start + n * 6 + 6) bytes)
 body-replaced order fields bytes tail values i n k start f v body before le is passes here lt count =
     gap-filled order P (start + n * 6) bytes
@@ -216,7 +216,7 @@ body-replaced order fields bytes tail values i n k start f v body before le is p
     v body.spelled before (sym body.split ∙ sym (take-append-drop start bytes)) is passes here lt))
   where
     P : StructLink → List ℕ → Type 0
-    P link other = IsBody order fields (linked values (slice_set (links_in values) k link)) tail other
+    P link other = IsBody order fields (with_links values (slice_set (links_in values) k link)) tail other
 
     Q : StructLink → List ℕ → Type 0
     Q link other =
@@ -224,7 +224,7 @@ body-replaced order fields bytes tail values i n k start f v body before le is p
 
     whole : (link : StructLink) (other : List ℕ) → Q link other → P link (other ++ tail)
     whole link other s =
-        let same = ap (λ k. linked values (slice_set (links_in values) k link)) count
+        let same = ap (λ k. with_links values (slice_set (links_in values) k link)) count
         ∙ linked-at values i n v link here lt in
         subst (λ values. IsBody order fields values tail (other ++ tail)) (sym same) (record {
           front = other;

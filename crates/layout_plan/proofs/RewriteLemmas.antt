@@ -13,7 +13,7 @@ use Rattle.scalar_types.specs.declared.Width.TheVariants.{One, Two, Four, Eight}
 use Rattle.type_text.specs.declared.types.Link.{Link as StructLink}
 use Rattle.record_values.specs.declared.values.Value.{Value}
 use Rattle.record_values.specs.declared.values.Value.TheVariants as value
-use Rattle.record_values.specs.Links.{links_of, links_in, linked_value, linked}
+use Rattle.record_values.specs.Links.{links_of, links_in, linked_value, with_links}
 use Rattle.record_values.specs.Spelling.{IsClosedText}
 use Rattle.layout_plan.specs.declared.fields.Form.{Form}
 use Rattle.layout_plan.specs.declared.fields.Form.TheVariants.{Number, Pair, Text, Link}
@@ -26,7 +26,7 @@ use Rattle.layout_plan.specs.Body.{IsListed, IsField, AreFields, IsBody, HasBody
 use Rattle.layout_plan.specs.Layout.{IsEarlier, AreSums, IsLayout}
 use Rattle.layout_plan.specs.Lent.{IsPlaced}
 use Rattle.layout_plan.specs.Links.{HasLinks}
-use Rattle.layout_plan.specs.Written.{cleared, IsRewritten}
+use Rattle.layout_plan.specs.Written.{with_sums_cleared, IsRewritten}
 use Rattle.layout_plan.specs.Respelled.{SpellsFew, RespellsField, IsSumNumber}
 use Rattle.layout_plan.proofs.BodyLemmas.{field_in-exact}
 use Rattle.layout_plan.proofs.CounterLemmas.{AreSound-at}
@@ -52,16 +52,16 @@ linked_value-number (value.Bytes xs) links = refl
 
 -- other links leave the numbers as they are
 linked-numbers : (values : List Value) (links : List StructLink)
-    → map number_of (linked values links) ≡ map number_of values
+    → map number_of (with_links values links) ≡ map number_of values
 linked-numbers [] links = refl
 linked-numbers (v ∷ vs) links =
-    ap (λ n. n ∷ map number_of (linked vs (drop (length (links_of v)) links)))
+    ap (λ n. n ∷ map number_of (with_links vs (drop (length (links_of v)) links)))
     (linked_value-number v (take (length (links_of v)) links))
     ∙ ap (λ ns. number_of v ∷ ns) (linked-numbers vs (drop (length (links_of v)) links))
 
 -- a cleared check sum leaves those before the last as they are
 cleared-number : (fields : List Field) (values : List Value) (k : ℕ) → AreSums fields → length fields ≡ length values
-    → k + 1 < length fields → slice_index (map number_of (cleared fields values)) k
+    → k + 1 < length fields → slice_index (map number_of (with_sums_cleared fields values)) k
     ≡ slice_index (map number_of values) k
 cleared-number [] values k sums same lt = absurd (omega arith)
 cleared-number (f ∷ fs) [] k sums same lt = absurd (omega arith)
@@ -184,7 +184,7 @@ drop-at xs k x is =
 
 -- the values with 0 for the check sum and with the new links
 abbrev pub renewed : List Field → List Value → List StructLink → List Value
-renewed fields values links = linked (cleared fields values) links
+renewed fields values links = with_links (with_sums_cleared fields values) links
 
 -- the first k fields are written again with so many of the links
 pub record AreRewritten (order : Order) (fields : List Field) (values : List Value) (links : List StructLink)
@@ -233,7 +233,7 @@ renewed-alike : (fields : List Field) (values : List Value) (links : List Struct
     → length fields ≡ length values → k < length fields
     → AreAlike k (map number_of values) (map number_of (renewed fields values links))
 renewed-alike fields values links k sums same lt j less =
-    ap (λ ns. slice_index ns j) (linked-numbers (cleared fields values) links)
+    ap (λ ns. slice_index ns j) (linked-numbers (with_sums_cleared fields values) links)
     ∙ cleared-number fields values j sums same (omega arith)
 
 -- one more field

@@ -27,7 +27,8 @@ use Rattle.layout_plan.specs.Marks.{product_by, numeral_of, fixed_width, is_vari
 use Rattle.layout_plan.specs.Marks.{place_of}
 use Rattle.layout_plan.specs.Spelled.{Tells, TellsLength}
 use Rattle.layout_plan.specs.Steps.{single_width, items_of, unit_of, counter_of, counters_of, width_at}
-use Rattle.layout_plan.specs.Steps.{step_of, no_step, step_at, steps_of, number_by, counted, counter_value, step_count}
+use Rattle.layout_plan.specs.Steps.{step_of, no_step, step_at, steps_of, number_by, count_of_number, counter_value}
+use Rattle.layout_plan.specs.Steps.{step_count}
 use Rattle.layout_plan.specs.Steps.{IsStep, HasRoom, IsThere, AreThere, IsAmount}
 use Rattle.layout_plan.specs.Walking.{number_at, AreNumbers, ArePlaces}
 use Rattle.layout_plan.proofs.SpelledLemmas.{capped-product, field_in-alike, listed_numbers-Tells}
@@ -125,7 +126,8 @@ Tells-text order numbers Text [] bytes r is told = told
 Tells-text order numbers Text (c ∷ cs) bytes r is told = cc
 
 -- a count that is right as far as the greatest number tells
-same-count : (n m k : ℕ) → min n (2 ^ 64 - 1) ≡ min (m * 1) (2 ^ 64 - 1) → k < 2 ^ 64 - 1 → min n (k + 1) ≡ min m (k + 1)
+same-count : (n m k : ℕ) → min n (2 ^ 64 - 1) ≡ min (m * 1) (2 ^ 64 - 1) → k < 2 ^ 64 - 1
+    → min n (k + 1) ≡ min m (k + 1)
 same-count n m k same short = omega arith
 
 capped-again : (count n k : ℕ) → count ≡ min n (2 ^ 64 - 1) → k < 2 ^ 64 - 1 → min count (k + 1) ≡ min n (k + 1)
@@ -229,12 +231,12 @@ counter-there order fields body k i ends signed places lt le =
 counter-counts : (order : Order) (fields : List Field) (body : List ℕ) (k i : ℕ) (ends numbers : List ℕ)
     (signed : Option Width) → ArePlaces order fields body k ends → i < k → k ≤ length fields
     → AreNumbers order fields body k numbers
-    → counter_value order body ends (counter_of fields i signed) ≡ counted signed (get_or numbers i 0)
+    → counter_value order body ends (counter_of fields i signed) ≡ count_of_number signed (get_or numbers i 0)
 counter-counts order fields body k i ends numbers signed places lt le are =
     let f = element-within fields i (omega arith) in
     let rest = drop (place_of ends (mark_of fields i)) body in
-    ap (λ w. counted signed (number_by order w rest)) (width_at-field fields i f.0 f.1)
-    ∙ ap (counted signed) (number_by-at order f.0.form f.0.counts rest
+    ap (λ w. count_of_number signed (number_by order w rest)) (width_at-field fields i f.0 f.1)
+    ∙ ap (count_of_number signed) (number_by-at order f.0.form f.0.counts rest
     ∙ counter-is order fields body k i f.0 ends numbers places lt f.1 are)
 
 earlier-head : (k : ℕ) (c : Count) (cs : List Count) → All (IsEarlier k) (c ∷ cs) → IsEarlier k c
@@ -288,7 +290,7 @@ counters-count order fields body k ends numbers (OfSigned i width ∷ cs) places
     ∙ ap (λ v. v * (product_by numeral_of cs * product_by (counter_value order body ends) (counters_of fields cs)))
     (counter-counts order fields body k i ends numbers (Some width) places
     (earlier-head k (OfSigned i width) cs earlier) le are)
-    ∙ ap (λ p. counted (Some width) (get_or numbers i 0) * p)
+    ∙ ap (λ p. count_of_number (Some width) (get_or numbers i 0) * p)
     (counters-count order fields body k ends numbers cs places le are
     (All-tail (IsEarlier k) (OfSigned i width) cs earlier))
 

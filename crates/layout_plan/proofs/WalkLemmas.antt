@@ -13,7 +13,7 @@ use Rattle.layout_plan.specs.Body.{number_of, values_length, IsMeasured, IsBody,
 use Rattle.layout_plan.specs.Links.{HasLinks}
 use Rattle.layout_plan.specs.Walking.{IsReached, TellsBody}
 use Rattle.layout_plan.specs.declared.faults.Measured.{Measured}
-use Rattle.layout_plan.specs.Reading.{and_then, found_map, field_in, at_field, fields_in, ended, body_in}
+use Rattle.layout_plan.specs.Reading.{and_then, found_map, field_in, at_field, fields_in, whole_body, body_in}
 use Rattle.layout_plan.proofs.LengthLemmas.{body-length}
 use Rattle.layout_plan.proofs.BodyLemmas.{ended-Ok, ended-Err, body_in-found, body_in-again}
 
@@ -44,7 +44,7 @@ fields_in-drop order numbers fields i f bytes lt is =
 pub fields_in-fault : (order : Order) (fields : List Field) (body : List ℕ) (fault : BodyFault)
     → fields_in order [] fields body ≡ Err fault → body_in order fields body ≡ Err fault
 unfolding body_in
-fields_in-fault order fields body fault e = ap (λ r. and_then r (ended (length fields))) e
+fields_in-fault order fields body fault e = ap (λ r. and_then r (whole_body (length fields))) e
 
 -- all fields
 pub IsReached-all : (order : Order) (fields : List Field) (body : List ℕ) (at zero_texts : ℕ)
@@ -59,7 +59,7 @@ pub IsReached-body : (order : Order) (fields : List Field) (body : List ℕ) (at
 unfolding body_in
 IsReached-body order fields body at zero_texts sound before ends =
     body_in-found order fields sound body before.values (drop at body)
-    (ap (λ r. and_then r (ended (length fields))) (IsReached-all order fields body at zero_texts before)
+    (ap (λ r. and_then r (whole_body (length fields))) (IsReached-all order fields body at zero_texts before)
     ∙ ended-Ok (length fields) (before.values, drop at body)
     (subst (λ n. (n ≡ 0) ⊎ (n ≡ 4)) (sym (length-drop at body)) ends))
 
@@ -91,7 +91,7 @@ pub IsReached-long : (order : Order) (fields : List Field) (body : List ℕ) (at
     → (length body - at ≡ 4 → ⊥) → body_in order fields body ≡ Err (record { field = length fields; reason = BodyLong })
 unfolding body_in
 IsReached-long order fields body at zero_texts before some other =
-    ap (λ r. and_then r (ended (length fields))) (IsReached-all order fields body at zero_texts before)
+    ap (λ r. and_then r (whole_body (length fields))) (IsReached-all order fields body at zero_texts before)
     ∙ ended-Err (length fields) (before.values, drop at body) (λ e. some (sym (length-drop at body) ∙ e))
     (λ e. other (sym (length-drop at body) ∙ e))
 

@@ -6,7 +6,7 @@ use Rattle.scalar_types.specs.declared.Order.{Order}
 use Rattle.type_text.specs.declared.types.Link.{Link as StructLink}
 use Rattle.record_values.specs.declared.values.Value.{Value}
 use Rattle.record_values.specs.Spelling.{IsLink}
-use Rattle.record_values.specs.Links.{links_of, links_in, linked}
+use Rattle.record_values.specs.Links.{links_of, links_in, with_links}
 use Rattle.layout_plan.specs.declared.fields.Form.{Form}
 use Rattle.layout_plan.specs.declared.fields.Form.TheVariants.{Number, Pair, Text, Link}
 use Rattle.layout_plan.specs.declared.fields.Field.{Field}
@@ -58,7 +58,7 @@ IsLinkPlaced order fields bytes k p =
 abbrev pub IsReplaceable : Order → List Field → List ℕ → ℕ → ℕ → Type 0
 IsReplaceable order fields bytes k at =
     (values : List Value) (tail : List ℕ) → IsBody order fields values tail bytes → (link : StructLink) (six : List ℕ)
-    → IsLink order link six → IsBody order fields (linked values (slice_set (links_in values) k link)) tail
+    → IsLink order link six → IsBody order fields (with_links values (slice_set (links_in values) k link)) tail
     (take at bytes ++ six ++ drop (at + 6) bytes)
 
 -- These are the body's links, in turn, each with the number of its field.

@@ -102,13 +102,13 @@ fields_in order numbers (f ∷ fs) bytes =
     (λ v. found_map (λ vs. v.0 ∷ vs) (fields_in order (numbers ++ number_of v.0 ∷ []) fs v.1))
 
 -- the values of n fields, where no bytes or four stand after them
-abbrev pub ended : ℕ → List Value × List ℕ → Result (List Value × List ℕ) BodyFault
-ended n x =
+abbrev pub whole_body : ℕ → List Value × List ℕ → Result (List Value × List ℕ) BodyFault
+whole_body n x =
     if length x.1 == 0 || length x.1 == 4 then Ok x else Err (record { field = n; reason = BodyLong })
 
 -- A body's values and tail, or its fault.
 unfoldable pub body_in : Order → List Field → List ℕ → Result (List Value × List ℕ) BodyFault
-body_in order fields bytes = and_then (fields_in order [] fields bytes) (ended (length fields))
+body_in order fields bytes = and_then (fields_in order [] fields bytes) (whole_body (length fields))
 
 -- The fault of a body that has no values.
 abbrev pub fault_of : Order → List Field → List ℕ → Option BodyFault

@@ -1,5 +1,6 @@
 -- Of the inside. The steps of a walk over the varied fields, made of the fields once.
-use Rattle.std.specs.Prelude.{◌≡◌, ◌≤◌, ◌<◌, ℕ, Bool, true, false, if◌then◌else◌, All, ◌+◌, ◌-◌, ◌*◌, ◌^◌, min, List, []}
+use Rattle.std.specs.Prelude.{◌≡◌, ◌≤◌, ◌<◌, ℕ, Bool, true, false, if◌then◌else◌, All, ◌+◌, ◌-◌, ◌*◌, ◌^◌, min, List}
+use Rattle.std.specs.Prelude.{[]}
 use Rattle.std.specs.Prelude.{◌∷◌, ◌++◌, length, map, take, slice_index_or}
 use Rattle.std.specs.Prelude.{drop, slice_get, Option, Some, None, option_and_then}
 use Rattle.std.specs.Option.{option_map_or}
@@ -87,13 +88,13 @@ number_by order (Some width) bytes = number order (take (size_of width) bytes)
 number_by order None bytes = 0
 
 -- what a number counts
-abbrev pub counted : Option Width → ℕ → ℕ
-counted (Some width) n = signed_count width n
-counted None n = n
+abbrev pub count_of_number : Option Width → ℕ → ℕ
+count_of_number (Some width) n = signed_count width n
+count_of_number None n = n
 
 -- what a counter counts, by the ends of the varied fields
 abbrev pub counter_value : Order → List ℕ → List ℕ → Counter → ℕ
-counter_value order body ends c = counted c.signed (number_by order c.width (drop (place_of ends c.mark) body))
+counter_value order body ends c = count_of_number c.signed (number_by order c.width (drop (place_of ends c.mark) body))
 
 -- what counters count together, as far as it fits
 abbrev pub counted_by : Order → List ℕ → List ℕ → List Counter → ℕ

@@ -6,7 +6,7 @@ use Rattle.scalar_types.specs.declared.Order.TheVariants.{Little}
 use Rattle.type_text.specs.declared.types.Link.{Link}
 use Rattle.record_values.specs.declared.values.Value.{Value}
 use Rattle.record_values.specs.declared.values.Value.TheVariants as value
-use Rattle.record_values.specs.Links.{linked}
+use Rattle.record_values.specs.Links.{with_links}
 use Rattle.record_values.specs.Spelling.{IsClosedText}
 use Rattle.layout_plan.specs.declared.fields.Field.{Field}
 use Rattle.layout_plan.specs.Body.{number_of, AreFieldsBy, IsBody, values_length}
@@ -26,13 +26,13 @@ pub record IsWritten (order : Order) (fields : List Field) (values : List Value)
   pub again : body_in order fields bytes ≡ Ok (values, [])
 
 -- the values with 0 in place of the check sum
-abbrev pub cleared : List Field → List Value → List Value
-cleared (f ∷ fs) (v ∷ vs) = (if f.is_sum then value.Num 0 else v) ∷ cleared fs vs
-cleared fields values = values
+abbrev pub with_sums_cleared : List Field → List Value → List Value
+with_sums_cleared (f ∷ fs) (v ∷ vs) = (if f.is_sum then value.Num 0 else v) ∷ with_sums_cleared fs vs
+with_sums_cleared fields values = values
 
 -- What is written again of a body: its values in little-endian order, with 0 for the check sum and these links in place
 -- of its own.
 abbrev pub IsRewritten : Order → List Field → List ℕ → List Link → List ℕ → Type 0
 IsRewritten order fields body links bytes =
     (values : List Value) (tail : List ℕ) → IsBody order fields values tail body
-    → IsWritten Little fields (linked (cleared fields values) links) bytes
+    → IsWritten Little fields (with_links (with_sums_cleared fields values) links) bytes

@@ -1,5 +1,5 @@
-//! The laws of layouts and bodies. Each is the contract of a function that does nothing: a crate that calls the function has the
-//! law.
+//! The laws of layouts and bodies. Each is the contract of a function that does nothing: a crate that calls the
+//! function has the law.
 ghost use Rattle.layout_plan.specs.BodyLaws.{LayoutsAreSound, FaultOrBody, BodiesAreUnique, LengthsAreTold};
 ghost use Rattle.layout_plan.specs.BodyLaws.{FaultsAreTold};
 
@@ -19,8 +19,9 @@ pub fn lengths_are_told()
     ensures { LengthsAreTold }
 {}
 
-/// A body's fault is the first field that no front of the bytes left spells. It is BodyShort where some further bytes would let one,
-/// BadText where none would, and BodyLong where all fields are spelled and neither none nor four bytes stand after them.
+/// A body's fault is the first field that no front of the bytes left spells. It is BodyShort where some further bytes
+/// would let one, BadText where none would, and BodyLong where all fields are spelled and neither none nor four bytes
+/// stand after them.
 pub fn faults_are_told()
     ensures { FaultsAreTold }
 {}

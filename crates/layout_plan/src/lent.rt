@@ -1,4 +1,5 @@
-//! Fields read from the bytes of a body, without its values. Each call walks over the varied fields up to the one that it reads.
+//! Fields read from the bytes of a body, without its values. Each call walks over the varied fields up to the one that
+//! it reads.
 ghost use Rattle.std.specs.Prelude.{◌≡◌, ℕ, ◌+◌, ◌≤◌, ◌<◌, ◌-◌, ◌^◌, List, length, take, drop};
 ghost use Rattle.scalar_types.specs.declared.Order.{Order};
 ghost use Rattle.layout_plan.specs.Body.{HasBody};
@@ -20,7 +21,8 @@ pub struct Placed {
     pub length: usize,
 }
 
-/// Where a field begins and where it ends, in bytes from the beginning of a body that spells the layout. Takes no memory.
+/// Where a field begins and where it ends, in bytes from the beginning of a body that spells the layout. Takes no
+/// memory.
 pub fn span_of(plan: &Plan, order: Order, body: &[u8], field: u32) -> (usize, usize)
     requires body { HasBody order plan.now body.now }
     requires field { field < length plan.now }
@@ -44,7 +46,8 @@ pub fn num_at(plan: &Plan, order: Order, body: &[u8], field: u32) -> u64
     number_at(order, &plan.fields()[field as usize], &body[start..])
 }
 
-/// The text of a field without dimension, lent from a body that spells the layout, without its closing zero byte. Takes no memory.
+/// The text of a field without dimension, lent from a body that spells the layout, without its closing zero byte. Takes
+/// no memory.
 pub fn text_at<'a>(plan: &Plan, order: Order, body: &'a [u8], field: u32) -> &'a [u8]
     requires body { HasBody order plan.now body.now }
     requires field { field < length plan.now }

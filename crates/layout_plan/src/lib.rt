@@ -35,13 +35,3 @@ pub use walking::{FEW_FIELDS, FIELD_LIMIT};
 
 #[cfg(test)]
 mod tests;
-#[cfg(test)]
-mod tests_of_built_in;
-#[cfg(test)]
-mod tests_of_links;
-#[cfg(test)]
-mod tests_of_plans;
-#[cfg(test)]
-mod tests_of_products;
-#[cfg(test)]
-mod tests_of_rewriting;

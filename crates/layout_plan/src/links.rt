@@ -1,4 +1,5 @@
-//! Links read from the bytes of a body, without its values: those of its fields in turn, and within a list those of its items.
+//! Links read from the bytes of a body, without its values: those of its fields in turn, and within a list those of its
+//! items.
 ghost use Rattle.std.specs.Prelude.{◌≡◌, ℕ, true, ◌+◌, ◌≤◌, ◌<◌, ◌++◌, List, Ok, length, drop, OnOk, OnErr};
 ghost use Rattle.std.specs.List.{list_all};
 ghost use Rattle.scalar_types.specs.declared.Order.{Order};
@@ -47,8 +48,9 @@ pub fn link_at(plan: &Plan, order: Order, body: &[u8], k: u64) -> Link
     link_of(order, &body[at..])
 }
 
-/// Where the six bytes of the link of this number, from 0, stand in a body that spells the layout: they begin so many bytes from
-/// its beginning. The bytes of another link in their place make a body of the same values, but for that link. Takes no memory.
+/// Where the six bytes of the link of this number, from 0, stand in a body that spells the layout: they begin so many
+/// bytes from its beginning. The bytes of another link in their place make a body of the same values, but for that
+/// link. Takes no memory.
 pub fn link_start(plan: &Plan, order: Order, body: &[u8], k: u64) -> usize
     requires { HasLink order plan.now body.now k }
     ensures within { result + 6 ≤ length body.now }
@@ -57,7 +59,8 @@ pub fn link_start(plan: &Plan, order: Order, body: &[u8], k: u64) -> usize
     link_place(plan, order, body, k).at
 }
 
-/// The number of the field that holds the link of this number, from 0, in a body that spells the layout. Takes no memory.
+/// The number of the field that holds the link of this number, from 0, in a body that spells the layout. Takes no
+/// memory.
 pub fn link_field(plan: &Plan, order: Order, body: &[u8], k: u64) -> u32
     requires { HasLink order plan.now body.now k }
     ensures { HasLinkIn order plan.now body.now k result }
@@ -199,7 +202,8 @@ fn push_field(
     into: &mut Vec<FieldLink>,
 ) -> Result<(), AllocError>
     ensures { Appends
-        (λ links. OnOk result ((items : List StructLink) → AreItems (IsLink order) items bytes.now → links ≡ links_with field items))
+        (λ links. OnOk result ((items : List StructLink) → AreItems (IsLink order) items bytes.now
+        → links ≡ links_with field items))
         into.old.items
         into.new.items }
 {

@@ -106,8 +106,8 @@ impl Plan {
 
 /// The plan of an entry with at most 4,096 elements. None exactly where its layout is not readable.
 ///
-/// A layout is readable where each element has a type, and each named dimension is the name of an earlier element that is a whole
-/// number without dimension. A name means the first element of that name.
+/// A layout is readable where each element has a type, and each named dimension is the name of an earlier element that
+/// is a whole number without dimension. A name means the first element of that name.
 pub fn compile(alloc: Global, entry: &Entry) -> Result<Option<Plan>, AllocError>
     requires { length entry.now.elements ≤ 4096 }
     ensures { IfOk result (λ plan. plan ≡ layout_of entry.now.elements) }
@@ -178,7 +178,8 @@ fn note_number(numbers: &mut ItemList<u32>, i: u32, such: bool) -> Result<(), Al
 /// Notes the name of the element of this number. An earlier element of the same name stays.
 fn note_name(alloc: Global, names: &mut Names, i: u32, element: &Element) -> Result<(), AllocError>
     ensures { OnOk result
-        ((earlier : List Element) → length earlier ≡ i → HoldsNames names.old earlier → HoldsNames names.new (earlier ++ element.now ∷ [])) }
+        ((earlier : List Element) → length earlier ≡ i → HoldsNames names.old earlier
+        → HoldsNames names.new (earlier ++ element.now ∷ [])) }
 {
     if names.get(element.name.bytes()).is_some() {
         return Ok(());

@@ -11,7 +11,8 @@ use indexmap::IndexMap;
 use std::alloc::{AllocError, Global};
 use std::marker::Model;
 
-/// Plans by class. Contracts see the classes that have one with their fields, in the order in which they were learnt first.
+/// Plans by class. Contracts see the classes that have one with their fields, in the order in which they were learnt
+/// first.
 #[derive(Drop)]
 pub struct Plans {
     by_class: IndexMap<u8, Plan>,
@@ -36,8 +37,8 @@ impl Plans {
         }
     }
 
-    /// Keeps the plan of an entry of class 3 to 255 with at most 4,096 elements, in place of an earlier one of its class.
-    /// Changes nothing where the layout is not readable. Where memory is out, the plans stay as they were.
+    /// Keeps the plan of an entry of class 3 to 255 with at most 4,096 elements, in place of an earlier one of its
+    /// class. Changes nothing where the layout is not readable. Where memory is out, the plans stay as they were.
     pub fn learn(&mut self, entry: &Entry) -> Result<(), AllocError>
         requires low { 3 ≤ entry.now.class }
         requires high { entry.now.class ≤ 255 }

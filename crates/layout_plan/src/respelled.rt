@@ -1,5 +1,5 @@
-//! The bytes of one field spelled again in little-endian order, each text closed by its zero byte. Where memory is out, a part of
-//! them may stand there.
+//! The bytes of one field spelled again in little-endian order, each text closed by its zero byte. Where memory is out,
+//! a part of them may stand there.
 ghost use Rattle.std.specs.Prelude.{◌≡◌, ◌≤◌, ◌<◌, ◌*◌, ℕ, List, true, length, take, OnOk, IfOk};
 ghost use Rattle.scalar_types.specs.declared.Order.{Order};
 ghost use Rattle.type_text.specs.declared.types.Link.{Link as StructLink};

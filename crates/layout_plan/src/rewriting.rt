@@ -1,5 +1,5 @@
-//! A body written again in the canonical form, without its values: in little-endian order, with other links, each text closed by its
-//! zero byte, the check sum cleared and no tail.
+//! A body written again in the canonical form, without its values: in little-endian order, with other links, each text
+//! closed by its zero byte, the check sum cleared and no tail.
 ghost use Rattle.std.specs.Prelude.{◌≡◌, ◌≤◌, length, OnOk, OnErr, IfOk};
 ghost use Rattle.scalar_types.specs.declared.Order.{Order};
 ghost use Rattle.layout_plan.specs.Appends.{Appends};
@@ -17,9 +17,9 @@ use scalar_types::Order;
 use std::alloc::AllocError;
 use type_text::Link;
 
-/// Appends the values of a body that spells the layout in little-endian order, and makes no value of them: the k-th link replaced by
-/// the k-th of `links`, a last field `chkSum INT_4U` as 0, and each text, the empty one too, closed by its zero byte. No tail is
-/// appended. Where memory is out, `into` is as it was.
+/// Appends the values of a body that spells the layout in little-endian order, and makes no value of them: the k-th
+/// link replaced by the k-th of `links`, a last field `chkSum INT_4U` as 0, and each text, the empty one too, closed by
+/// its zero byte. No tail is appended. Where memory is out, `into` is as it was.
 pub fn rewrite(
     plan: &Plan,
     order: Order,

@@ -3,6 +3,12 @@
 ghost use Rattle.std.specs.Prelude.{◌≡◌, ◌<◌, Some, IfSome, length, slice_get};
 ghost use Rattle.layout_plan.specs.Body.{HasBody};
 
+mod built_in;
+mod link_places;
+mod plans;
+mod products;
+mod rewriting;
+
 use super::*;
 use dictionary::{Element, ElementList, Entry};
 use scalar_types::Order;
@@ -32,7 +38,7 @@ fn element(alloc: Global, name: &str, text: &str) -> Result<Element, AllocError>
 }
 
 /// The plan of a structure of these elements.
-pub fn plan(alloc: Global, elements: &[(&str, &str)]) -> Result<Option<Plan>, AllocError> {
+pub fn compiled_plan(alloc: Global, elements: &[(&str, &str)]) -> Result<Option<Plan>, AllocError> {
     let entry = entry(alloc, 3, elements)?;
     if entry.elements.len() > 4096 {
         return Ok(None);
@@ -47,7 +53,7 @@ pub fn measured(
     order: Order,
     body: &[u8],
 ) -> Result<Option<Result<Measured, BodyFault>>, AllocError> {
-    match plan(alloc, elements)? {
+    match compiled_plan(alloc, elements)? {
         Some(plan) => Ok(Some(measure(&plan, order, body))),
         None => Ok(None),
     }
@@ -82,7 +88,7 @@ fn layouts_read_or_do_not(rt: HostRuntime) -> Result<(), Fail> {
         (("n", "STRING"), ("n", "INT_4U"), ("w", "CHAR[n]"), false),
         (("v", "CHAR"), ("w", "CHAR"), ("n", "INT_3U"), false),
     ] {
-        let plan = plan(rt.alloc(), &[first, second, third])?;
+        let plan = compiled_plan(rt.alloc(), &[first, second, third])?;
         assert_eq!(rt; plan.is_some(), reads, "{first:?} {second:?} {third:?}");
     }
     Ok(())
@@ -320,7 +326,8 @@ pub fn link(plan: &Plan, order: Order, body: &[u8], k: u64) -> Option<Link> {
 /// The field of this number, or None where the body does not read or there is none.
 fn read_field<'a>(plan: &'a Plan, order: Order, body: &[u8], field: u32) -> Option<&'a Field>
     ensures { IfSome result
-        (λ each. HasBody order plan.now body.now × (field < length plan.now) × (slice_get plan.now field ≡ Some each.now)) }
+        (λ each. HasBody order plan.now body.now × (field < length plan.now)
+        × (slice_get plan.now field ≡ Some each.now)) }
 {
     let Ok(_) = measure(plan, order, body) else {
         return None;
@@ -341,7 +348,7 @@ fn fields_are_read_from_lent_bytes(rt: HostRuntime) -> Result<(), Fail> {
         ("t", "STRING"),
         ("w", "INT_4S"),
     ];
-    let Some(plan) = plan(alloc, &elements)? else {
+    let Some(plan) = compiled_plan(alloc, &elements)? else {
         return Err("the layout does not read".into());
     };
     let body = [2, 0, 1, 0, 2, 0, 3, 0x41, 0x42, 0, 0, 0, 1, 2, 9, 9, 9, 9].as_slice();
@@ -421,7 +428,7 @@ fn links_of_lists_are_read_in_turn(rt: HostRuntime) -> Result<(), Fail> {
         (after, none, &[(1, 9, 1)]),
     ];
     for (elements, body, want) in told {
-        let Some(plan) = plan(alloc, &elements)? else {
+        let Some(plan) = compiled_plan(alloc, &elements)? else {
             return Err("the layout does not read".into());
         };
         let found = links(alloc, &plan, Order::Little, body)?;
@@ -460,7 +467,7 @@ fn links_are_read_from_lent_bytes(rt: HostRuntime) -> Result<(), Fail> {
         ("v", "STRING[n]"),
         ("b", "PTR_STRUCT(X *)"),
     ];
-    let Some(plan) = plan(alloc, &elements)? else {
+    let Some(plan) = compiled_plan(alloc, &elements)? else {
         return Err("the layout does not read".into());
     };
     let body = [0, 7, 0, 0, 1, 0, 2, 0, 0, 0, 1, 0, 1, 2, 3, 4, 5, 6].as_slice();

@@ -13,7 +13,7 @@ use Rattle.frame_region.specs.Region.{Held, IsLive, AreApart, bytes_of, with_pie
 use Rattle.link_graph.specs.declared.nodes.Node.{Node}
 use Rattle.link_graph.specs.declared.nodes.Kept.{Kept}
 use Rattle.link_graph.specs.Collected.{Bodied, Collected, Becomes, with_node, with_end, without_stat}
-use Rattle.link_graph.specs.Kept.{without_stat_kept, bodied, Follow, IsBeside, AreKept, collected}
+use Rattle.link_graph.specs.Kept.{without_stat_kept, bodied, Follow, IsBeside, AreKept, segment_view}
 
 abbrev with_body : Node → List ℕ → Bodied
 with_body node body = record { node = node; body = body }
@@ -157,8 +157,8 @@ pub piece-put : (order : Order) (old new : Held) (records : List Kept) (end_kept
     AreKept old records end_kept pending → KeepsSpans old new →
     Gives new next (bytes_of old pending ++ piece) →
     new ≡ record { bytes = old.bytes ++ piece; spare = old.spare - length piece; clears = old.clears } →
-    collected order old records end_kept pending ≡ s →
-    collected order new records end_kept next ≡ record s {
+    segment_view order old records end_kept pending ≡ s →
+    segment_view order new records end_kept next ≡ record s {
       pending = s.pending ++ piece;
       given =
           s.given + length piece;
@@ -172,8 +172,8 @@ piece-put order old new records end_kept pending next piece s kept keeps gives g
     let given : length new.bytes ≡ length old.bytes + length piece = ap (λ (r : Held). length r.bytes) grown
     ∙ length-append old.bytes piece in
     let spare : new.spare ≡ old.spare - length piece = ap (λ (r : Held). r.spare) grown in
-    let made : collected order new records end_kept next ≡ record
-    (collected order old records end_kept pending) {
+    let made : segment_view order new records end_kept next ≡ record
+    (segment_view order old records end_kept pending) {
       pending = bytes_of old pending ++ piece;
       given =
           length old.bytes + length piece;
@@ -199,8 +199,8 @@ piece-put order old new records end_kept pending next piece s kept keeps gives g
 pub node-added : (order : Order) (old new : Held) (records : List Kept) (end_kept : Option Kept)
     (pending next : Span) (node : Node) (s : Collected) →
     AreKept old records end_kept pending → KeepsSpans old new → Gives new next [] →
-    new.bytes ≡ old.bytes ++ [] → collected order old records end_kept pending ≡ s →
-    Becomes (collected order new (records ++ record { node = node; span = pending } ∷ []) end_kept next)
+    new.bytes ≡ old.bytes ++ [] → segment_view order old records end_kept pending ≡ s →
+    Becomes (segment_view order new (records ++ record { node = node; span = pending } ∷ []) end_kept next)
     (with_node node s)
 node-added order old new records end_kept pending next node s kept keeps gives grown is =
     let added : Kept = record { node = node; span = pending } in
@@ -222,8 +222,8 @@ node-added order old new records end_kept pending next node s kept keeps gives g
 pub end-set : (order : Order) (old new : Held) (records : List Kept) (end_kept : Option Kept)
     (pending next : Span) (node : Node) (s : Collected) →
     AreKept old records end_kept pending → KeepsSpans old new → Gives new next [] →
-    new.bytes ≡ old.bytes ++ [] → collected order old records end_kept pending ≡ s →
-    Becomes (collected order new records (Some (record { node = node; span = pending })) next)
+    new.bytes ≡ old.bytes ++ [] → segment_view order old records end_kept pending ≡ s →
+    Becomes (segment_view order new records (Some (record { node = node; span = pending })) next)
     (with_end node s)
 end-set order old new records end_kept pending next node s kept keeps gives grown is =
     let same : bytes_of new pending ≡ bytes_of old pending = (keeps pending kept.pending_live).bytes_are in
@@ -240,8 +240,8 @@ end-set order old new records end_kept pending next node s kept keeps gives grow
 pub none-pending : (order : Order) (old new : Held) (records : List Kept) (end_kept : Option Kept)
     (pending next : Span) (s : Collected) →
     AreKept old records end_kept pending → KeepsSpans old new → Gives new next [] →
-    new.bytes ≡ old.bytes ++ [] → collected order old records end_kept pending ≡ s →
-    Becomes (collected order new records end_kept next) (record s { pending = [] })
+    new.bytes ≡ old.bytes ++ [] → segment_view order old records end_kept pending ≡ s →
+    Becomes (segment_view order new records end_kept next) (record s { pending = [] })
 none-pending order old new records end_kept pending next s kept keeps gives grown is = record {
   order = ap (λ (s : Collected). s.order) is;
   nodes = bodied-kept old new records keeps kept.live ∙ ap (λ (s : Collected). s.nodes) is;

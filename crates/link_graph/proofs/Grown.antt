@@ -12,7 +12,7 @@ use Rattle.type_text.specs.declared.types.Link.{Link}
 use Rattle.link_graph.specs.declared.index.Spot.{Spot}
 use Rattle.link_graph.specs.declared.index.Spot.TheVariants.{Taken, Free}
 use Rattle.link_graph.specs.Index.{is_link, place_in, digits_of, is_at, child_at}
-use Rattle.link_graph.specs.Index.{walk, spot_of, taken, IsForward, AreReached}
+use Rattle.link_graph.specs.Index.{walk, spot_of, number_at_spot, IsForward, AreReached}
 use Rattle.link_graph.proofs.Walks.{same-link, at-old, at-new, place-push, distinct-push, replicate-blank}
 use Rattle.link_graph.proofs.Walks.{append-blank, past-blank, walk-taken, walk-on, child-forward, length-suc}
 
@@ -50,7 +50,7 @@ module _ (links : List Link) (children : List ℕ) (to : Link) (place : ℕ)
 
   -- the walk that comes to the new link
   walk-new : (link : Link) (steps digits : ℕ) →
-      taken (walk (links ++ to ∷ []) (grown children place (length links)) link (suc steps)
+      number_at_spot (walk (links ++ to ∷ []) (grown children place (length links)) link (suc steps)
       (length links) digits) ≡ cond (is_link link to) (Some (length links)) None
   walk-new link steps digits = by (is_link link to) (at-new links to link)
     where
@@ -60,11 +60,11 @@ module _ (links : List Link) (children : List ℕ) (to : Link) (place : ℕ)
           ∙ past-blank children (length links * 16 + digits % 16) (omega (arith, size))
 
       by : (b : Bool) → is_at (links ++ to ∷ []) (length links) link ≡ b →
-          taken (walk (links ++ to ∷ []) (grown children place (length links)) link (suc steps)
+          number_at_spot (walk (links ++ to ∷ []) (grown children place (length links)) link (suc steps)
           (length links) digits) ≡ cond b (Some (length links)) None
-      by true is = ap taken (walk-taken (links ++ to ∷ [])
+      by true is = ap number_at_spot (walk-taken (links ++ to ∷ [])
           (grown children place (length links)) link steps (length links) digits is)
-      by false is = ap taken (walk-on (links ++ to ∷ [])
+      by false is = ap number_at_spot (walk-on (links ++ to ∷ [])
           (grown children place (length links)) link steps (length links) digits is
           ∙ ap (λ b. cond b (Free (length links * 16 + digits % 16))
           (walk (links ++ to ∷ []) (grown children place (length links)) link steps
@@ -73,7 +73,7 @@ module _ (links : List Link) (children : List ℕ) (to : Link) (place : ℕ)
 
   pub grown-walk : (link : Link) (steps number digits : ℕ) → number < length links →
       length links ≤ number + steps →
-      taken (walk (links ++ to ∷ []) (grown children place (length links)) link (suc steps)
+      number_at_spot (walk (links ++ to ∷ []) (grown children place (length links)) link (suc steps)
       number digits) ≡ after (length links) place to link (walk links children link steps number digits)
   grown-walk link zero number digits lt enough = absurd (omega (arith, lt, enough))
   grown-walk link (suc steps) number digits lt enough =
@@ -84,15 +84,15 @@ module _ (links : List Link) (children : List ℕ) (to : Link) (place : ℕ)
           (child == 0) ≡ b →
           (number * 16 + digits % 16 ≡ place → ⊥) →
           ((child : ℕ) → child < length links → length links ≤ child + steps →
-          taken (walk (links ++ to ∷ []) (grown children place (length links)) link (suc steps)
+          number_at_spot (walk (links ++ to ∷ []) (grown children place (length links)) link (suc steps)
           child (digits / 16)) ≡
           after (length links) place to link (walk links children link steps child (digits / 16))) →
-          taken (cond (child == 0) (Free (number * 16 + digits % 16)) (walk (links ++ to ∷ [])
+          number_at_spot (cond (child == 0) (Free (number * 16 + digits % 16)) (walk (links ++ to ∷ [])
           (grown children place (length links)) link (suc steps) child (digits / 16))) ≡
           after (length links) place to link (cond (child == 0) (Free (number * 16 + digits % 16))
           (walk links children link steps child (digits / 16)))
       down child is true none apart more =
-          ap (λ b. taken (cond b (Free (number * 16 + digits % 16)) (walk (links ++ to ∷ [])
+          ap (λ b. number_at_spot (cond b (Free (number * 16 + digits % 16)) (walk (links ++ to ∷ [])
           (grown children place (length links)) link (suc steps) child (digits / 16)))) none
           ∙ sym (ap (λ b. after (length links) place to link (cond b (Free (number * 16 + digits % 16))
           (walk links children link steps child (digits / 16)))) none
@@ -102,7 +102,7 @@ module _ (links : List Link) (children : List ℕ) (to : Link) (place : ℕ)
           (λ e. eqb-false child 0 some (sym is ∙ e)) in
           let later : number < child = subst (λ (n : ℕ). number < n) is next.0 in
           let below : child < length links = subst (λ (n : ℕ). n < length links) is next.1 in
-          ap (λ b. taken (cond b (Free (number * 16 + digits % 16)) (walk (links ++ to ∷ [])
+          ap (λ b. number_at_spot (cond b (Free (number * 16 + digits % 16)) (walk (links ++ to ∷ [])
           (grown children place (length links)) link (suc steps) child (digits / 16)))) some
           ∙ more child below (omega (arith, later, enough))
           ∙ sym (ap (λ b. after (length links) place to link (cond b (Free (number * 16 + digits % 16))
@@ -110,10 +110,10 @@ module _ (links : List Link) (children : List ℕ) (to : Link) (place : ℕ)
 
       on : (number * 16 + digits % 16 ≡ place) ⊎ (number * 16 + digits % 16 ≡ place → ⊥) →
           ((child : ℕ) → child < length links → length links ≤ child + steps →
-          taken (walk (links ++ to ∷ []) (grown children place (length links)) link (suc steps)
+          number_at_spot (walk (links ++ to ∷ []) (grown children place (length links)) link (suc steps)
           child (digits / 16)) ≡
           after (length links) place to link (walk links children link steps child (digits / 16))) →
-          taken (cond (child_at (grown children place (length links))
+          number_at_spot (cond (child_at (grown children place (length links))
           (number * 16 + digits % 16) == 0) (Free (number * 16 + digits % 16)) (walk (links ++ to ∷ [])
           (grown children place (length links)) link (suc steps)
           (child_at (grown children place (length links)) (number * 16 + digits % 16))
@@ -126,9 +126,9 @@ module _ (links : List Link) (children : List ℕ) (to : Link) (place : ℕ)
           (number * 16 + digits % 16) ≡ length links =
           ap (child_at (grown children place (length links))) e ∙ child-same in
           let none : child_at children (number * 16 + digits % 16) ≡ 0 = ap (child_at children) e ∙ free in
-          ap (λ (c : ℕ). taken (cond (c == 0) (Free (number * 16 + digits % 16)) (walk (links ++ to ∷ [])
+          ap (λ (c : ℕ). number_at_spot (cond (c == 0) (Free (number * 16 + digits % 16)) (walk (links ++ to ∷ [])
           (grown children place (length links)) link (suc steps) c (digits / 16)))) child
-          ∙ ap (λ b. taken (cond b (Free (number * 16 + digits % 16)) (walk (links ++ to ∷ [])
+          ∙ ap (λ b. number_at_spot (cond b (Free (number * 16 + digits % 16)) (walk (links ++ to ∷ [])
           (grown children place (length links)) link (suc steps) (length links)
           (digits / 16)))) (ne_eqb (length links) 0 (λ z. omega (arith, z, lt)))
           ∙ walk-new link steps (digits / 16)
@@ -137,7 +137,7 @@ module _ (links : List Link) (children : List ℕ) (to : Link) (place : ℕ)
           (eq-eqb (child_at children (number * 16 + digits % 16)) 0 none)
           ∙ after-free (length links) place to link (number * 16 + digits % 16) e)
       on (inr apart) more =
-          ap (λ (c : ℕ). taken (cond (c == 0) (Free (number * 16 + digits % 16)) (walk (links ++ to ∷ [])
+          ap (λ (c : ℕ). number_at_spot (cond (c == 0) (Free (number * 16 + digits % 16)) (walk (links ++ to ∷ [])
           (grown children place (length links)) link (suc steps) c (digits / 16))))
           (child-other (number * 16 + digits % 16) apart)
           ∙ down (child_at children (number * 16 + digits % 16)) refl
@@ -145,18 +145,18 @@ module _ (links : List Link) (children : List ℕ) (to : Link) (place : ℕ)
 
       at : (b : Bool) → is_at links number link ≡ b →
           ((child : ℕ) → child < length links → length links ≤ child + steps →
-          taken (walk (links ++ to ∷ []) (grown children place (length links)) link (suc steps)
+          number_at_spot (walk (links ++ to ∷ []) (grown children place (length links)) link (suc steps)
           child (digits / 16)) ≡
           after (length links) place to link (walk links children link steps child (digits / 16))) →
-          taken (walk (links ++ to ∷ []) (grown children place (length links)) link
+          number_at_spot (walk (links ++ to ∷ []) (grown children place (length links)) link
           (suc (suc steps)) number digits) ≡ after (length links) place to link
           (walk links children link (suc steps) number digits)
-      at true is more = ap taken (walk-taken (links ++ to ∷ [])
+      at true is more = ap number_at_spot (walk-taken (links ++ to ∷ [])
           (grown children place (length links)) link (suc steps) number digits
           (at-old links to link number lt ∙ is))
           ∙ sym (ap (after (length links) place to link) (walk-taken links children link steps number
           digits is))
-      at false is more = ap taken (walk-on (links ++ to ∷ [])
+      at false is more = ap number_at_spot (walk-on (links ++ to ∷ [])
           (grown children place (length links)) link (suc steps) number digits
           (at-old links to link number lt ∙ is))
           ∙ on (cases_eq (number * 16 + digits % 16) place) more
@@ -199,7 +199,7 @@ free-spot links children to place (suc steps) number digits size forward lt enou
         walk links children to steps child (digits / 16) ≡ Free place →
         (child_at children place ≡ 0) × (place < length children)) →
         (child_at children place ≡ 0) × (place < length children)
-    at true is more = let taken = sym (walk-taken links children to steps number digits is) ∙ e in absurd cc
+    at true is more = let number_at_spot = sym (walk-taken links children to steps number digits is) ∙ e in absurd cc
     at false is more = down (child_at children (number * 16 + digits % 16) == 0) refl
         (sym (walk-on links children to steps number digits is) ∙ e) more
 
@@ -207,11 +207,11 @@ free-spot links children to place (suc steps) number digits size forward lt enou
 
 settle : (count place : ℕ) (to link : Link) (spot : Spot) (b : Bool) → is_link link to ≡ b →
     (b ≡ true → spot ≡ Free place) →
-    after count place to link spot ≡ option_or (taken spot) (cond b (Some count) None)
+    after count place to link spot ≡ option_or (number_at_spot spot) (cond b (Some count) None)
 settle count place to link spot true is ended =
     ap (after count place to link) (ended refl) ∙ after-free count place to link place refl
     ∙ ap (λ b. cond b (Some count) None) is
-    ∙ sym (ap (λ (s : Spot). option_or (taken s) (Some count)) (ended refl))
+    ∙ sym (ap (λ (s : Spot). option_or (number_at_spot s) (Some count)) (ended refl))
 settle count place to link (Taken number) false is ended = refl
 settle count place to link (Free other) false is ended =
     ap (λ b. cond b (Some count) None) (and_right (other == place) (is_link link to) is)
@@ -224,7 +224,7 @@ pub reached-push : (links : List Link) (children : List ℕ) (to : Link) (place 
 reached-push links children to place reached some few spot =
     let found = free-spot links children to place (length links) 0 (digits_of to) reached.size reached.forward
     some (omega arith) spot in
-    let free : place_in links to ≡ None = sym (reached.reached to) ∙ ap taken spot in
+    let free : place_in links to ≡ None = sym (reached.reached to) ∙ ap number_at_spot spot in
     record {
       few = omega (arith, length_push links to, few);
       size = length-set (children ++ replicate 16 0) place (length links)
@@ -233,7 +233,7 @@ reached-push links children to place reached some few spot =
       forward = λ other. forward found.1 other (cases_eq other place);
       distinct = distinct-push links to reached.distinct free;
       reached = λ link.
-          ap (λ (k : ℕ). taken (walk (links ++ to ∷ [])
+          ap (λ (k : ℕ). number_at_spot (walk (links ++ to ∷ [])
           (grown children place (length links)) link k 0 (digits_of link))) (length-suc links to)
           ∙ grown-walk links children to place reached.size reached.forward found.0 found.1 link (length
           links) 0
@@ -280,8 +280,8 @@ first-reached links children to reached none =
     }))
   where
     by : (link : Link) (b : Bool) → is_link link to ≡ b →
-        taken (walk (to ∷ []) (replicate 16 0) link 1 0 (digits_of link)) ≡ cond b (Some 0) None
-    by link true is = ap taken (walk-taken (to ∷ []) (replicate 16 0) link 0 0 (digits_of link) is)
-    by link false is = ap taken (walk-on (to ∷ []) (replicate 16 0) link 0 0 (digits_of link) is
+        number_at_spot (walk (to ∷ []) (replicate 16 0) link 1 0 (digits_of link)) ≡ cond b (Some 0) None
+    by link true is = ap number_at_spot (walk-taken (to ∷ []) (replicate 16 0) link 0 0 (digits_of link) is)
+    by link false is = ap number_at_spot (walk-on (to ∷ []) (replicate 16 0) link 0 0 (digits_of link) is
         ∙ ap (λ b. cond b (Free (0 * 16 + digits_of link % 16)) (Free 0))
         (eq-eqb _ 0 (replicate-blank 16 (0 * 16 + digits_of link % 16) 0)))

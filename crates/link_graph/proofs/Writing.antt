@@ -11,20 +11,20 @@ use Rattle.type_text.specs.declared.types.Link.{Link}
 use Rattle.record_values.specs.Spelling.{IsLink}
 use Rattle.layout_plan.specs.Body.{IsBody}
 use Rattle.frame_region.specs.declared.span.Span.{Span}
-use Rattle.frame_region.specs.Region.{Held, IsLive, AreApart, bytes_of, overwritten, part_of, with_written}
+use Rattle.frame_region.specs.Region.{Held, IsLive, AreApart, bytes_of, overwrite_at, part_of, with_written}
 use Rattle.frame_region.specs.Region.{Gives}
 use Rattle.frame_region.proofs.Spans.{length-overwritten}
 use Rattle.link_graph.specs.declared.nodes.Kept.{Kept}
 use Rattle.link_graph.specs.Collected.{Bodied, Collected}
 use Rattle.link_graph.specs.Graph.{Layouts}
 use Rattle.link_graph.specs.Relinked.{IsLinkOf, IsRelinked, SetsLink}
-use Rattle.link_graph.specs.Kept.{bodied, Follow, IsBeside, AreKept, collected}
+use Rattle.link_graph.specs.Kept.{bodied, Follow, IsBeside, AreKept, segment_view}
 use Rattle.link_graph.proofs.Bodies.{follow-before, node-at, few-bytes}
 
 -- What a write within a span leaves of the others.
 pub record Writes (old new : Held) (span : Span) (at : ℕ) (piece : List ℕ) : Type 0 where
   pub within : at + length piece ≤ span.length
-  pub gives : Gives new span (overwritten at piece (bytes_of old span))
+  pub gives : Gives new span (overwrite_at at piece (bytes_of old span))
   pub live : (other : Span) → IsLive old other → IsLive new other
   pub others : (other : Span) → IsLive old other → AreApart (part_of span at (length piece)) other →
       bytes_of new other ≡ bytes_of old other
@@ -120,11 +120,11 @@ kept-written old new records end_kept pending span at piece kept writes = record
 relinked-body : (plans : Layouts) (order : Order) (k : ℕ) (to : Link) (old new : Held) (kept : Kept)
     (at : ℕ) (six : List ℕ) →
     IsLinkOf plans order k at (bodied old kept) → IsLink order to six → length six ≡ 6 →
-    bytes_of new kept.span ≡ overwritten at six (bytes_of old kept.span) →
+    bytes_of new kept.span ≡ overwrite_at at six (bytes_of old kept.span) →
     IsRelinked plans order k to (bodied old kept) (bodied new kept)
 relinked-body plans order k to old new kept at six place spelled size written =
     let body : List ℕ = bytes_of old kept.span in
-    let same : overwritten at six body ≡ take at body ++ six ++ drop (at + 6) body =
+    let same : overwrite_at at six body ≡ take at body ++ six ++ drop (at + 6) body =
     ap (λ n. take at body ++ (six ++ drop (at + n) body)) size
     ∙ sym (append_assoc (take at body) six (drop (at + 6) body)) in
     record {
@@ -163,7 +163,7 @@ span-fits plans order n k at region records nodes kept is found place =
 -- what `write` ensures
 pub writes-from : (old new : Held) (span : Span) (at : ℕ) (piece : List ℕ) → IsLive old span →
     at + length piece ≤ span.length → new ≡ with_written old (span.at + at) piece →
-    Gives new span (overwritten at piece (bytes_of old span)) →
+    Gives new span (overwrite_at at piece (bytes_of old span)) →
     ((other : Span) → IsLive old other → IsLive new other) →
     ((other : Span) → IsLive old other → AreApart (part_of span at (length piece)) other →
     bytes_of new other ≡ bytes_of old other) → Writes old new span at piece
@@ -181,10 +181,10 @@ writes-from old new span at piece live within after gives lives others = record 
 pub link-set : (plans : Layouts) (order : Order) (n k : ℕ) (to : Link) (old new : Held)
     (records : List Kept) (end_kept : Option Kept) (pending : Span) (kept : Kept) (at : ℕ) (six : List ℕ)
     (s : Collected) →
-    AreKept old records end_kept pending → collected order old records end_kept pending ≡ s →
+    AreKept old records end_kept pending → segment_view order old records end_kept pending ≡ s →
     slice_get records n ≡ Some kept → Writes old new kept.span at six →
     IfSome (slice_get s.nodes n) (IsLinkOf plans order k at) → IsLink order to six → length six ≡ 6 →
-    SetsLink plans n k to s (collected order new records end_kept pending)
+    SetsLink plans n k to s (segment_view order new records end_kept pending)
 link-set plans order n k to old new records end_kept pending kept at six s are is found writes place spelled
     size =
     let within : n < length records = slice_get_within records n kept found in
@@ -204,8 +204,8 @@ link-set plans order n k to old new records end_kept pending kept at six s are i
     ∙ ap (λ (kept : Kept). slice_set (map (bodied old) records) n (bodied new kept)) named in
     let size_is : length new.bytes ≡ length old.bytes = writes.size in
     let spare_is : new.spare ≡ old.spare = writes.spare in
-    let made : collected order new records end_kept pending ≡ record
-    (collected order old records end_kept pending) {
+    let made : segment_view order new records end_kept pending ≡ record
+    (segment_view order old records end_kept pending) {
       nodes =
           slice_set (map (bodied old) records) n (bodied new kept);
     } =

@@ -41,9 +41,9 @@ abbrev pub spot_of : List Link → List ℕ → Link → Spot
 spot_of links children link = walk links children link (length links) 0 (digits_of link)
 
 -- the number of the link where a walk ends
-abbrev pub taken : Spot → Option ℕ
-taken (Taken number) = Some number
-taken (Free place) = None
+abbrev pub number_at_spot : Spot → Option ℕ
+number_at_spot (Taken number) = Some number
+number_at_spot (Free place) = None
 
 -- what hangs at a place comes behind the link whose place it is
 abbrev pub IsForward : ℕ → List ℕ → Type 0
@@ -57,4 +57,4 @@ pub record AreReached (links : List Link) (children : List ℕ) : Type 0 where
   pub forward : IsForward (length links) children
   pub distinct : (number : ℕ) (link : Link) → slice_get links number ≡ Some link →
       place_in links link ≡ Some number
-  pub reached : (link : Link) → taken (spot_of links children link) ≡ place_in links link
+  pub reached : (link : Link) → number_at_spot (spot_of links children link) ≡ place_in links link

@@ -51,8 +51,8 @@ pub record AreKept (region : Held) (records : List Kept) (end_kept : Option Kept
     pub last : pending.at + pending.length ≡ length region.bytes
 
 -- what callers see of what is kept
-abbrev pub collected : Order → Held → List Kept → Option Kept → Span → Collected
-collected order region records end_kept pending = record {
+abbrev pub segment_view : Order → Held → List Kept → Option Kept → Span → Collected
+segment_view order region records end_kept pending = record {
   order = order;
   nodes = map (bodied region) records;
   end_record = option_map (bodied region) end_kept;

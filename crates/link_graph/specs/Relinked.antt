@@ -3,13 +3,13 @@ use Rattle.std.specs.Prelude.{◌≡◌, ℕ, ◌+◌, ◌≤◌, List, length, 
 use Rattle.scalar_types.specs.declared.Order.{Order}
 use Rattle.type_text.specs.declared.types.Link.{Link}
 use Rattle.record_values.specs.declared.values.Value.{Value}
-use Rattle.record_values.specs.Links.{links_in, linked}
+use Rattle.record_values.specs.Links.{links_in, with_links}
 use Rattle.record_values.specs.Spelling.{IsLink}
 use Rattle.layout_plan.specs.declared.fields.Field.{Field}
 use Rattle.layout_plan.specs.Body.{IsBody}
 use Rattle.layout_plan.specs.Links.{HasLink, IsReplaceable}
 use Rattle.layout_plan.specs.Plans.{plan_of}
-use Rattle.frame_region.specs.Region.{overwritten}
+use Rattle.frame_region.specs.Region.{overwrite_at}
 use Rattle.link_graph.specs.Collected.{Bodied, Collected}
 use Rattle.link_graph.specs.Graph.{Layouts}
 
@@ -33,11 +33,11 @@ pub record IsRelinked (plans : Layouts) (order : Order) (k : ℕ) (to : Link) (o
   pub six : List ℕ
   pub spelled : IsLink order to six
   pub within : at + 6 ≤ length old.body
-  pub body : new.body ≡ overwritten at six old.body
+  pub body : new.body ≡ overwrite_at at six old.body
   pub reads : (fields : List Field) (values : List Value) (tail : List ℕ) →
       plan_of plans old.node.class ≡ Some fields
       → IsBody order fields values tail old.body
-      → IsBody order fields (linked values (slice_set (links_in values) k to)) tail new.body
+      → IsBody order fields (with_links values (slice_set (links_in values) k to)) tail new.body
 
 -- The record of a number has this link as the one of number k, and all else is as it was.
 pub record SetsLink (plans : Layouts) (node k : ℕ) (to : Link) (old new : Collected) : Type 0 where

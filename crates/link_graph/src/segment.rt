@@ -47,11 +47,11 @@ pub struct Segment {
 
 impl Model for Segment {
     ghost use Rattle.link_graph.specs.Collected.{Collected};
-    ghost use Rattle.link_graph.specs.Kept.{collected, AreKept};
+    ghost use Rattle.link_graph.specs.Kept.{segment_view, AreKept};
 
     ghost Value = { Collected };
 
-    ghost view = { λ s. collected s.order s.region s.records s.end s.pending };
+    ghost view = { λ s. segment_view s.order s.region s.records s.end s.pending };
 
     ghost invariant = { λ s. AreKept s.region s.records s.end s.pending };
 }

@@ -8,7 +8,7 @@ use Rattle.frame_outside.specs.Counts.{Rose}
 use Rattle.frame_outside.specs.declared.traits.ShelfError.{ShelfError}
 use Rattle.frame_outside.specs.declared.traits.ShelfError.TheVariants.{Failed, NoMemory}
 use Rattle.frame_outside.specs.Shelf.{Outside, Slot, Source, Target, Told, IsSource, IsTarget, Passes}
-use Rattle.frame_outside.specs.Shelf.{Gives, HandsOut, Writes, WritesPart, left_of, passed, pass}
+use Rattle.frame_outside.specs.Shelf.{Gives, HandsOut, Writes, WritesPart, left_of, reading_past, pass}
 use Rattle.frame_outside.specs.Shelf.{slot_wrote, write, reading_at, writing_at, files_written}
 use Rattle.frame_outside.proofs.Slots.{pass-zero, pass-pass, reading_at-pass, reading_at-write}
 use Rattle.frame_outside.proofs.Slots.{writing_at-pass, write-pass, IsSource-pass, IsTarget-pass}
@@ -52,7 +52,7 @@ moves_none outside from to = record {
 
 -- what is told of the source slot
 reading_at-moves : (old new : Outside) (from to n : ℕ) (bytes : List ℕ) → Moves old new from to n bytes →
-    reading_at new.slots from ≡ option_map (passed n) (reading_at old.slots from)
+    reading_at new.slots from ≡ option_map (reading_past n) (reading_at old.slots from)
 reading_at-moves old new from to n bytes moves =
     ap (λ slots. reading_at slots from) moves.slots ∙ reading_at-write (pass old.slots from n) to bytes from
     ∙ reading_at-pass old.slots from n
@@ -168,10 +168,10 @@ next_more : (first middle : Outside) (from to n m : ℕ) (bytes into piece : Lis
     Told (reading_at first.slots from)
     (λ reading. bytes ++ piece ≡ take (length (bytes ++ piece)) (left_of reading))
 next_more first middle from to n m bytes into piece moves count gives short is reading told =
-    let moved : reading_at middle.slots from ≡ Some (passed n reading) =
-    reading_at-moves first middle from to n bytes moves ∙ ap (option_map (passed n)) told in
+    let moved : reading_at middle.slots from ≡ Some (reading_past n reading) =
+    reading_at-moves first middle from to n bytes moves ∙ ap (option_map (reading_past n)) told in
     let given : take m into ≡ take m (drop (reading.at + n) reading.opened) =
-    gives.bytes (passed n reading) moved in
+    gives.bytes (reading_past n reading) moved in
     let later : drop n (left_of reading) ≡ drop (reading.at + n) reading.opened =
     drop-drop n reading.at reading.opened in
     let piece_is : piece ≡ take (length piece) (drop n (left_of reading)) =
@@ -238,10 +238,10 @@ copied_all first middle last from to n m into copied passes gives room none =
       count = copied.count;
       moves = subst P same (moves_taken first middle last from to n m copied.bytes copied.moves passes);
       all = λ reading told.
-          let moved : reading_at middle.slots from ≡ Some (passed n reading) =
+          let moved : reading_at middle.slots from ≡ Some (reading_past n reading) =
           reading_at-moves first middle from to n copied.bytes copied.moves
-          ∙ ap (option_map (passed n)) told in
-          let past : length reading.opened ≤ reading.at + n = gives.end none room (passed n reading) moved in
+          ∙ ap (option_map (reading_past n)) told in
+          let past : length reading.opened ≤ reading.at + n = gives.end none room (reading_past n reading) moved in
           copied.moves.next reading told
           ∙ take_all (length copied.bytes) (left_of reading)
           (omega (arith, past, copied.count, length-drop reading.at reading.opened));

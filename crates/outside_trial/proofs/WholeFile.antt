@@ -4,7 +4,7 @@ use Rattle.std.proofs.Common.{Option, Some, None, option_map, Result, Ok, Err, I
 use Rattle.std.proofs.Common.{inl, inr, refl, sym, ap, ◌∙◌, arith, length-take}
 use Rattle.frame_outside.specs.Counts.{Rose}
 use Rattle.frame_outside.specs.Shelf.{Files, Outside, Source, Target, Opens, Makes, wrote, pass}
-use Rattle.frame_outside.specs.Shelf.{beginning, beginning_of, writing_begun, released, reading_at}
+use Rattle.frame_outside.specs.Shelf.{beginning, beginning_of, writing_begun, without_slot, reading_at}
 use Rattle.frame_outside.specs.Shelf.{writing_at}
 use Rattle.frame_outside.specs.Shelf.{files_written, holding}
 use Rattle.frame_outside.proofs.Slots.{reading_at-given, reading_at-made, writing_at-made, writing_at-pass}
@@ -42,7 +42,7 @@ holds_moved first made last from to source target n files bytes ready told moves
     let still : opened.files ≡ Some files = ready.opens.files ∙ told in
     let writing : writing_at made.slots target ≡ writing_begun (Some files) to =
     ap (λ slots. writing_at slots target) ready.makes.slots
-    ∙ ap (writing_at (released to opened.slots ++ Target (writing_begun opened.files to) ∷ []))
+    ∙ ap (writing_at (without_slot to opened.slots ++ Target (writing_begun opened.files to) ∷ []))
     ready.makes.number
     ∙ writing_at-made to opened.slots (writing_begun opened.files to) ∙ ap (λ f. writing_begun f to) still in
     let empty : made.files ≡ Some (holding to [] files) =

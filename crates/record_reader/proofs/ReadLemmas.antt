@@ -11,7 +11,7 @@ use Rattle.layout_plan.specs.declared.faults.BodyReason.TheVariants.{BodyLong}
 use Rattle.layout_plan.specs.declared.faults.BodyFault.{BodyFault}
 use Rattle.layout_plan.specs.Layout.{AreSound}
 use Rattle.layout_plan.specs.Body.{number_of, HasBody}
-use Rattle.layout_plan.specs.Reading.{and_then, found_map, field_in, at_field, fields_in, ended, body_in, fault_of}
+use Rattle.layout_plan.specs.Reading.{and_then, found_map, field_in, at_field, fields_in, whole_body, body_in, fault_of}
 use Rattle.layout_plan.proofs.BodyLemmas.{ended-Ok, ended-Err, body_in-found, body_in-again}
 use Rattle.layout_plan.proofs.WalkLemmas.{found_map-none, found_map-more, map-push, fields_in-drop}
 use Rattle.record_reader.specs.declared.cursor.Stop.{Stop}
@@ -75,7 +75,7 @@ pub AreRead-stops : (order : Order) (fields : List Field) (body : List ℕ) (i :
 unfolding body_in
 AreRead-stops order fields body i values numbers rest f (At reason) left sound before lt is e =
     Reads-fault order fields body (record { field = i; reason = reason }) sound
-    (ap (λ r. and_then r (ended (length fields))) (before.reads
+    (ap (λ r. and_then r (whole_body (length fields))) (before.reads
     ∙ ap (found_map (λ others. values ++ others)) (fields_in-drop order numbers fields i f rest lt is
     ∙ ap (λ r. and_then (at_field (length numbers) r)
     (λ (w : Value × List ℕ). found_map (λ vs. w.0 ∷ vs)
@@ -102,7 +102,7 @@ unfolding body_in
 AreRead-ends order fields body i values numbers rest sound before le ends = (
   rest,
   body_in-found order fields sound body values rest
-      (ap (λ r. and_then r (ended (length fields))) (AreRead-all order fields body i values numbers rest before le)
+      (ap (λ r. and_then r (whole_body (length fields))) (AreRead-all order fields body i values numbers rest before le)
       ∙ ended-Ok (length fields) (values, rest) ends),
 )
 
@@ -113,5 +113,5 @@ pub AreRead-long : (order : Order) (fields : List Field) (body : List ℕ) (i : 
 unfolding body_in
 AreRead-long order fields body i values numbers rest sound before le some other =
     Reads-fault order fields body (record { field = length fields; reason = BodyLong }) sound
-    (ap (λ r. and_then r (ended (length fields))) (AreRead-all order fields body i values numbers rest before le)
+    (ap (λ r. and_then r (whole_body (length fields))) (AreRead-all order fields body i values numbers rest before le)
     ∙ ended-Err (length fields) (values, rest) some other)

@@ -11,10 +11,12 @@ use Rattle.record_reader.specs.declared.cursor.Stop.TheVariants as stop
 use Rattle.record_reader.specs.declared.reading.BodyError.{BodyError}
 use Rattle.record_reader.specs.declared.reading.BodyError.TheVariants.{Fault, NoMemory}
 
--- The values that the bytes spell before some tail; or the fault of bytes that spell no values before any tail; or that memory is wanting.
+-- The values that the bytes spell before some tail; or the fault of bytes that spell no values before any tail; or that
+-- memory is wanting.
 abbrev pub Reads : Order → List Field → List ℕ → Result (List Value) BodyError → Type 0
 Reads order fields bytes (Ok values) = (tail : List ℕ) × IsBody order fields values tail bytes
-Reads order fields bytes (Err (Fault fault)) = (fault_of order fields bytes ≡ Some fault) × (HasBody order fields bytes → ⊥)
+Reads order fields bytes (Err (Fault fault)) = (fault_of order fields bytes ≡ Some fault)
+    × (HasBody order fields bytes → ⊥)
 Reads order fields bytes (Err NoMemory) = ⊤
 
 -- the error of a stop at a field

@@ -1,5 +1,5 @@
-//! Lists of items, taken from the front of what is left. A list asks for memory by the items that are there, whatever count is
-//! claimed.
+//! Lists of items, taken from the front of what is left. A list asks for memory by the items that are there, whatever
+//! count is claimed.
 
 ghost use Rattle.layout_plan.specs.Reading.{number_in, pair_in, text_in, link_in, items_in};
 ghost use Rattle.scalar_types.specs.declared.Width.TheVariants.{One};

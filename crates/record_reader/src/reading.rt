@@ -33,8 +33,9 @@ impl From<AllocError> for BodyError {
 
 /// The values that a body spells by the layout of the plan, one a field, else the first field without a spelling.
 ///
-/// The body is the bytes after the structure's common part. It may end with four bytes that no field spells. The time is linear in
-/// the number of fields and the length of the body, and memory is asked for by the items that are there, whatever counts stand in it.
+/// The body is the bytes after the structure's common part. It may end with four bytes that no field spells. The time
+/// is linear in the number of fields and the length of the body, and memory is asked for by the items that are there,
+/// whatever counts stand in it.
 pub fn read_body(
     alloc: Global,
     plan: &Plan,

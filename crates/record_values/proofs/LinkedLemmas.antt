@@ -8,7 +8,7 @@ use Rattle.type_text.specs.declared.types.Link.{Link}
 use Rattle.record_values.specs.declared.values.Value.{Value}
 use Rattle.record_values.specs.declared.values.Value.TheVariants as value
 use Rattle.record_values.specs.Values.{number_of}
-use Rattle.record_values.specs.Links.{links_of, links_in, linked_value, linked}
+use Rattle.record_values.specs.Links.{links_of, links_in, linked_value, with_links}
 
 -- the number of a value is not in its links
 linked_value-number : (v : Value) (links : List Link) → number_of (linked_value v links) ≡ number_of v
@@ -45,12 +45,12 @@ linked_value-own (value.Bytes xs) = refl
 
 -- the links of the first value, and those of the others
 linked-first : (v : Value) (vs : List Value) (first others : List Link) → length first ≡ length (links_of v)
-    → linked (v ∷ vs) (first ++ others) ≡ linked_value v first ∷ linked vs others
+    → with_links (v ∷ vs) (first ++ others) ≡ linked_value v first ∷ with_links vs others
 linked-first v vs first others size =
     λ i. linked_value v (take_at first others (length (links_of v)) size i)
-    ∷ linked vs (drop_at first others (length (links_of v)) size i)
+    ∷ with_links vs (drop_at first others (length (links_of v)) size i)
 
-pub linked-own : (values : List Value) → linked values (links_in values) ≡ values
+pub linked-own : (values : List Value) → with_links values (links_in values) ≡ values
 linked-own [] = refl
 linked-own (v ∷ vs) =
     linked-first v vs (links_of v) (links_in vs) refl ∙ (λ i. linked_value-own v i ∷ linked-own vs i)
@@ -58,23 +58,23 @@ linked-own (v ∷ vs) =
 -- another link in place of the n-th of the value at a place
 pub linked-at : (values : List Value) (i n : ℕ) (v : Value) (link : Link) → slice_get values i ≡ Some v
     → n < length (links_of v)
-    → linked values (slice_set (links_in values) (length (links_in (take i values)) + n) link)
+    → with_links values (slice_set (links_in values) (length (links_in (take i values)) + n) link)
     ≡ slice_set values i (linked_value v (slice_set (links_of v) n link))
 linked-at [] i n v link is lt = cc
 linked-at (w ∷ ws) zero n v link is lt =
     let same = same_Some w v is in
     let here : n < length (links_of w) = omega (arith, lt, ap (λ v. length (links_of v)) same) in
     let start : length (links_in []) + n ≡ n = omega arith in
-    ap (λ k. linked (w ∷ ws) (slice_set (links_of w ++ links_in ws) k link)) start
-    ∙ ap (linked (w ∷ ws)) (set-append_left (links_of w) (links_in ws) n link here)
+    ap (λ k. with_links (w ∷ ws) (slice_set (links_of w ++ links_in ws) k link)) start
+    ∙ ap (with_links (w ∷ ws)) (set-append_left (links_of w) (links_in ws) n link here)
     ∙ linked-first w ws (slice_set (links_of w) n link) (links_in ws) (length-set (links_of w) n link)
     ∙ (λ j. linked_value (same j) (slice_set (links_of (same j)) n link) ∷ linked-own ws j)
 linked-at (w ∷ ws) (suc i) n v link is lt =
     let size = length-append (links_of w) (links_in (take i ws)) in
     let later : length (links_of w ++ links_in (take i ws)) + n - length (links_of w) ≡ length (links_in (take i ws))
     + n = omega (arith, size) in
-    ap (linked (w ∷ ws)) (set-append_right (links_of w) (links_in ws) (length (links_of w))
+    ap (with_links (w ∷ ws)) (set-append_right (links_of w) (links_in ws) (length (links_of w))
     (length (links_of w ++ links_in (take i ws)) + n) link refl (omega (arith, size)))
-    ∙ ap (λ k. linked (w ∷ ws) (links_of w ++ slice_set (links_in ws) k link)) later
+    ∙ ap (λ k. with_links (w ∷ ws) (links_of w ++ slice_set (links_in ws) k link)) later
     ∙ linked-first w ws (links_of w) (slice_set (links_in ws) (length (links_in (take i ws)) + n) link) refl
     ∙ (λ j. linked_value-own w j ∷ linked-at ws i n v link is lt j)

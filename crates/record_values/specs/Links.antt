@@ -35,6 +35,7 @@ linked_value (value.Texts xs) links = value.Texts xs
 linked_value (value.Bytes xs) links = value.Bytes xs
 
 -- Values with these links in place of their own, in order.
-abbrev pub linked : List Value → List Link → List Value
-linked [] links = []
-linked (v ∷ vs) links = linked_value v (take (length (links_of v)) links) ∷ linked vs (drop (length (links_of v)) links)
+abbrev pub with_links : List Value → List Link → List Value
+with_links [] links = []
+with_links (v ∷ vs) links =
+    linked_value v (take (length (links_of v)) links) ∷ with_links vs (drop (length (links_of v)) links)

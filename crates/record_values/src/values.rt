@@ -18,7 +18,8 @@ pub type LinkList = ItemList<Link>;
 /// One value a field, in the order of the layout.
 pub type ValueList = ItemList<Value>;
 
-/// What a field of a record holds. A number stands for its bits: a signed one is not below zero here, and a real is its pattern.
+/// What a field of a record holds. A number stands for its bits: a signed one is not below zero here, and a real is its
+/// pattern.
 #[derive(Drop, Clone, PartialEq)]
 pub enum Value {
     /// A whole number, a character or a real.

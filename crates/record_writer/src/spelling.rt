@@ -43,7 +43,8 @@ fn push_field(
 ) -> Result<(), AllocError>
     requires { (numbers : List ℕ) × FitsField numbers field.now.form field.now.counts value.now }
     ensures { (numbers : List ℕ) → FitsField numbers field.now.form field.now.counts value.now → Appends
-        (λ bytes. OnOk result (IsFieldBy (IsClosedText order) order numbers field.now.form field.now.counts value.now bytes))
+        (λ bytes. OnOk result (IsFieldBy
+        (IsClosedText order) order numbers field.now.form field.now.counts value.now bytes))
         into.old.items
         into.new.items }
 {

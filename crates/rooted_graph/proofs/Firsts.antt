@@ -64,7 +64,8 @@ fold_front xs [] = ([], sym (append-nil xs))
 fold_front xs (y ∷ ys) = joined (added_front xs y) (fold_front (added xs y) ys)
   where
     joined : (rest : List ℕ) × (added xs y ≡ xs ++ rest) → (rest : List ℕ)
-        × (fold added (added xs y) ys ≡ added xs y ++ rest) → (rest : List ℕ) × (fold added (added xs y) ys ≡ xs ++ rest)
+        × (fold added (added xs y) ys ≡ added xs y ++ rest) → (rest : List ℕ)
+        × (fold added (added xs y) ys ≡ xs ++ rest)
     joined a b = (a.0 ++ b.0, b.1 ∙ ap (λ zs. zs ++ b.0) a.1 ∙ append_assoc xs a.0 b.0)
 
 added_distinct : (xs : List ℕ) (n : ℕ) → IsDistinct nat_eq xs → IsDistinct nat_eq (added xs n)

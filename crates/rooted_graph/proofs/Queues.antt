@@ -174,7 +174,8 @@ run g zero s i q h = (s, queue_end g s i q (omega (arith, queue_length g s i q))
 run g (suc fuel) s i q h = go (cases_lt i (length s)) (run g fuel)
   where
     go : (i < length s) ⊎ (length s ≤ i)
-        → ((u : List ℕ) (j : ℕ) → IsQueue g u j → longest g ≤ fuel + j → (t : List ℕ) × IsBreadthOrder g t) → (t : List ℕ)
+        → ((u : List ℕ) (j : ℕ) → IsQueue g u j → longest g ≤ fuel + j → (t : List ℕ) × IsBreadthOrder g t)
+        → (t : List ℕ)
         × IsBreadthOrder g t
     go (inl more) next = next (fold added s (targets g (get_or s i 0))) (suc i) (queue_step g s i q more) (omega arith)
     go (inr done) next = (s, queue_end g s i q done)

@@ -12,11 +12,18 @@ renumbered s link = option_and_then (number_of s) link
 
 -- the graph whose node k is the k-th node of s
 abbrev pub graph_in_order : Rooted → List ℕ → Rooted
-graph_in_order g s = record { links = map (λ n. map (renumbered s) (links_of g n)) s; roots = filter_map (number_of s) g.roots }
+graph_in_order g s = record {
+  links = map (λ n. map (renumbered s) (links_of g n)) s;
+  roots = filter_map (number_of s) g.roots;
+}
 
 -- the same with the labels
 abbrev pub in_order : {L : Type 0} → Labelled L → List ℕ → Labelled L
-in_order f s = record { graph = graph_in_order f.graph s; label = λ k. f.label (slice_index s k); end_label = f.end_label }
+in_order f s = record {
+  graph = graph_in_order f.graph s;
+  label = λ k. f.label (slice_index s k);
+  end_label = f.end_label;
+}
 
 -- 0, 1, 2 and so on, as many as s has
 abbrev pub counting_up : List ℕ → List ℕ

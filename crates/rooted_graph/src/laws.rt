@@ -1,7 +1,10 @@
 //! The laws of rooted graphs. Each is the contract of a function that does nothing: a crate that
 //! calls the function has the law. `L` is the type of the labels.
 
-ghost use Rattle.rooted_graph.specs.GraphLaws.{EachGraphHasAnOrder, OrdersAreUnique, OrdersHoldTheReached, EqualWhereOrdersLookTheSame, EqualityIsReflexive, EqualityIsSymmetric, EqualityIsTransitive, OrderedGraphsAreEqual, OrderedGraphsCountUp, PathsAloneDoNotTell};
+ghost use Rattle.rooted_graph.specs.GraphLaws.{EachGraphHasAnOrder, OrdersAreUnique, OrdersHoldTheReached};
+ghost use Rattle.rooted_graph.specs.GraphLaws.{EqualWhereOrdersLookTheSame, EqualityIsReflexive, EqualityIsSymmetric};
+ghost use Rattle.rooted_graph.specs.GraphLaws.{EqualityIsTransitive, OrderedGraphsAreEqual, OrderedGraphsCountUp};
+ghost use Rattle.rooted_graph.specs.GraphLaws.{PathsAloneDoNotTell};
 
 /// Every graph has a breadth-first order.
 pub fn each_graph_has_an_order()

@@ -45,6 +45,7 @@ pub trait LinkedNodes {
     fn next_link(&self, walk: &mut Self::Walk) -> Option<Option<u32>>
         requires { is_walk self.now walk.old }
         ensures walk { is_walk self.now walk.new }
-        ensures next { MatchOption result (ahead self.now walk.old ≡ []) (λ link. ahead self.now walk.old ≡ link ∷ ahead self.now walk.new) }
+        ensures next { MatchOption result (ahead self.now walk.old ≡ [])
+            (λ link. ahead self.now walk.old ≡ link ∷ ahead self.now walk.new) }
         ensures in_range { IfSome result (λ link. IfSome link (λ node. node < length (graph self.now).links)) };
 }

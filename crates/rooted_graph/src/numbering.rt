@@ -29,7 +29,8 @@ impl Numbering {
     pub fn of<G: LinkedNodes>(alloc: Global, graph: &G) -> Result<Numbering, AllocError>
         ensures order { IfOk result (IsBreadthOrder (G.graph graph.now)) }
         ensures in_range { IfOk result (All (λ node. node < length (G.graph graph.now).links)) }
-        ensures reached { IfOk result (λ order. (n : ℕ) → IsSome (number_of order n) ↔ IsReached (G.graph graph.now) n) }
+        ensures reached { IfOk result
+            (λ order. (n : ℕ) → IsSome (number_of order n) ↔ IsReached (G.graph graph.now) n) }
     {
         let mut queue = Queue::new(alloc, graph.node_count())?;
         queue.add_roots(graph)?;

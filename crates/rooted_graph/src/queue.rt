@@ -1,6 +1,7 @@
 //! The queue of a breadth-first walk: the nodes met so far, each once, and by node its place there.
 
-ghost use Rattle.std.specs.Prelude.{◌≡◌, ℕ, ◌<◌, ◌≤◌, ◌^◌, [], None, IfOk, OnOk, fold, length, count_by, is_some, replicate, slice_index_or};
+ghost use Rattle.std.specs.Prelude.{◌≡◌, ℕ, ◌<◌, ◌≤◌, ◌^◌, [], None, IfOk, OnOk, fold, length, count_by, is_some};
+ghost use Rattle.std.specs.Prelude.{replicate, slice_index_or};
 ghost use Rattle.rooted_graph.specs.BreadthOrder.{added, number_of, targets};
 
 use crate::linked_nodes::LinkedNodes;
@@ -65,7 +66,8 @@ impl Queue {
     ) -> Result<(), AllocError>
         requires node { node < length (G.graph graph.now).links }
         requires size { length self.old.numbers.items ≡ length (G.graph graph.now).links }
-        ensures nodes { OnOk result (self.new.nodes.items ≡ fold added self.old.nodes.items (targets (G.graph graph.now) node)) }
+        ensures nodes { OnOk result
+            (self.new.nodes.items ≡ fold added self.old.nodes.items (targets (G.graph graph.now) node)) }
         ensures size { length self.new.numbers.items ≡ length self.old.numbers.items }
     {
         let mut walk = graph.links(node);

@@ -28,7 +28,11 @@ struct Ahead<'a> {
 impl<'a> LinkedNodes for Rows<'a> {
     type Walk = Ahead<'a>;
 
-    ghost graph = { λ g. record { links = map (λ row. map (λ n. if nat_lt n (length g.rows.now) then Some n else None) row.now) g.rows.now; roots = g.roots.now } };
+    ghost graph = { λ g. record {
+      links =
+          map (λ row. map (λ n. if nat_lt n (length g.rows.now) then Some n else None) row.now) g.rows.now;
+      roots = g.roots.now;
+    } };
 
     ghost ahead = { λ g walk. map (λ n. if nat_lt n (length g.rows.now) then Some n else None) walk.links.now };
 

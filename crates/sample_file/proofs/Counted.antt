@@ -6,7 +6,7 @@ use Rattle.dictionary.specs.declared.entries.Entry.{Entry}
 use Rattle.frame_content.specs.Frames.{Frame}
 use Rattle.canonical_file.specs.Records.{records_of, entries_after}
 use Rattle.canonical_file.specs.Splices.{clash_of}
-use Rattle.canonical_file.specs.Written.{Written, begun, frame_part, after_frame, after_frames}
+use Rattle.canonical_file.specs.Written.{Written, header_alone, frame_part, after_frame, after_frames}
 use Rattle.sample_file.specs.Entries.{sample_entries}
 use Rattle.sample_file.specs.Sample.{sample_frame}
 use Rattle.sample_file.specs.Whole.{sample_frames}
@@ -54,13 +54,14 @@ size-then : (k : ℕ) (w : Written) (f : Frame) → IsKth k f → AreUsed w.entr
 unfolding computing IsKth AreUsed
 size-then k w f is (inl none) =
     let same : length (frame_part w f) ≡ 2481 =
-    ap (λ es. length (frame_part (record begun { entries = es }) f)) none ∙ ap (λ f. length (frame_part begun f)) is
+    ap (λ es. length (frame_part (record header_alone { entries = es }) f)) none
+    ∙ ap (λ f. length (frame_part header_alone f)) is
     ∙ size-first k in
     omega (arith, same)
 size-then k w f is (inr all) =
     let same : length (frame_part w f) ≡ 724 =
-    ap (λ es. length (frame_part (record begun { entries = es }) f)) all
-    ∙ ap (λ f. length (frame_part (record begun { entries = sample_entries }) f)) is ∙ size-later k in
+    ap (λ es. length (frame_part (record header_alone { entries = es }) f)) all
+    ∙ ap (λ f. length (frame_part (record header_alone { entries = sample_entries }) f)) is ∙ size-later k in
     omega (arith, same)
 
 -- the entries used are then used
@@ -83,13 +84,13 @@ pub kth : (k : ℕ) → IsKth k (sample_frame k)
 unfolding IsKth
 kth k = refl
 
-counted-none : IsAfter 0 begun
+counted-none : IsAfter 0 header_alone
 unfolding AreUsed
 counted-none = record { entries = inl refl; size = omega arith; frames = refl }
 
-pub counted : (k : ℕ) → IsAfter k (after_frames begun (sample_frames k))
-counted zero = subst (λ fs. IsAfter 0 (after_frames begun fs)) (sym frames-none) counted-none
+pub counted : (k : ℕ) → IsAfter k (after_frames header_alone (sample_frames k))
+counted zero = subst (λ fs. IsAfter 0 (after_frames header_alone fs)) (sym frames-none) counted-none
 counted (suc k) =
     let f : Frame = sample_frame k in
     subst (IsAfter (suc k)) (sym (after-next k f refl))
-    (counted-next k (after_frames begun (sample_frames k)) f (kth k) (counted k))
+    (counted-next k (after_frames header_alone (sample_frames k)) f (kth k) (counted k))

@@ -50,7 +50,8 @@ draft_at ds link = position (λ (d : Draft). is_named link d.node) ds
 abbrev pub target_in : List Draft → Link → Option ℕ
 target_in ds link = cond (link.class == 0) None (draft_at ds link)
 
-pub place-is : (ds : List Draft) (rs : List Bodied) → AllZip IsOf ds rs → (link : Link) → place_of rs link ≡ draft_at ds link
+pub place-is : (ds : List Draft) (rs : List Bodied) → AllZip IsOf ds rs → (link : Link)
+    → place_of rs link ≡ draft_at ds link
 place-is ds rs all link =
     sym (position-map (is_named link) record_node rs)
     ∙ ap (λ ns. position (is_named link) ns) (nodes-same ds rs all)
@@ -98,9 +99,11 @@ row-is : (ds : List Draft) (rs : List Bodied) → AllZip IsOf ds rs → (d : Dra
     → row_of Little sample_entries rs r ≡ drafted_row ds d
 row-is ds rs all d r sound is =
     let values : List Value = d.values in
-    let own : map (target_of rs) (links_in (option_map_or (λ (x : Reading). x.values) (reading_in Little sample_entries r) []))
+    let own : map (target_of rs)
+    (links_in (option_map_or (λ (x : Reading). x.values) (reading_in Little sample_entries r) []))
     ≡ map (target_of rs) (links_in values) =
-    ap (λ o. map (target_of rs) (links_in (option_map_or (λ (x : Reading). x.values) o []))) (reading-is d r sound is) in
+    ap (λ o. map (target_of rs) (links_in (option_map_or (λ (x : Reading). x.values) o [])))
+    (reading-is d r sound is) in
     λ i. record {
       label = label-is d r sound is i;
       links = (own ∙ targets-are ds rs all (links_in values)) i;
@@ -200,7 +203,8 @@ is_drafted_loose ds link = not (link.class == 0) && is_none (target_in ds link)
 abbrev pub drafted_loose : List Draft → ℕ → List Draft → Option (ℕ × ℕ)
 drafted_loose all n [] = None
 drafted_loose all n (d ∷ ds) =
-    option_map_or (λ k. Some (n, k)) (position (is_drafted_loose all) (links_in d.values)) (drafted_loose all (n + 1) ds)
+    option_map_or (λ k. Some (n, k)) (position (is_drafted_loose all) (links_in d.values))
+    (drafted_loose all (n + 1) ds)
 
 loose-are : (all : List Draft) (nodes : List Bodied) → AllZip IsOf all nodes → (links : List Link)
     → position (is_loose nodes) links ≡ position (is_drafted_loose all) links
@@ -224,10 +228,12 @@ loose-is plans planned all nodes whole n [] [] sound zip = refl
 loose-is plans planned all nodes whole n [] (r ∷ rs) sound zip = absurd zip
 loose-is plans planned all nodes whole n (d ∷ ds) [] sound zip = absurd zip
 loose-is plans planned all nodes whole n (d ∷ ds) (r ∷ rs) (first, sounds) (one, others) =
-    let here : position (is_loose nodes) (links_of plans Little r) ≡ position (is_drafted_loose all) (links_in d.values) =
+    let here : position (is_loose nodes) (links_of plans Little r)
+    ≡ position (is_drafted_loose all) (links_in d.values) =
     ap (position (is_loose nodes)) (links-are plans planned d r first one)
     ∙ loose-are all nodes whole (links_in d.values) in
-    λ i. option_map_or (λ k. Some (n, k)) (here i) (loose-is plans planned all nodes whole (n + 1) ds rs sounds others i)
+    λ i. option_map_or (λ k. Some (n, k)) (here i)
+    (loose-is plans planned all nodes whole (n + 1) ds rs sounds others i)
 
 pub first-loose : (plans : Layouts) (s : Collected) (ds : List Draft) → ArePlans plans → s.order ≡ Little
     → AllByRecursion IsSound ds → AllZip IsOf ds s.nodes → first_loose plans s ≡ drafted_loose ds 0 ds
@@ -244,7 +250,8 @@ reads plans planned order little d r sound is = subst (λ o. ReadsBy plans o r) 
   reads = (d.values, [], is.written.body);
 })
 
-pub all-read : (plans : Layouts) → ArePlans plans → (order : Order) → order ≡ Little → (ds : List Draft) (rs : List Bodied)
+pub all-read : (plans : Layouts) → ArePlans plans → (order : Order) → order ≡ Little
+    → (ds : List Draft) (rs : List Bodied)
     → AllByRecursion IsSound ds → AllZip IsOf ds rs → All (ReadsBy plans order) rs
 all-read plans planned order little ds rs sounds all =
     All-from_recursion (ReadsBy plans order) rs (by ds rs sounds all)

@@ -4,7 +4,7 @@ use Rattle.std.proofs.lemmas.List.{append_assoc, append-nil, map-append}
 use Rattle.std.proofs.lemmas.List.Sums.{fold-append}
 use Rattle.frame_head.specs.Header.{header_bytes}
 use Rattle.frame_content.specs.Frames.{Frame}
-use Rattle.canonical_file.specs.Written.{Written, begun, frame_part, frame_parts, after_frame, after_frames}
+use Rattle.canonical_file.specs.Written.{Written, header_alone, frame_part, frame_parts, after_frame, after_frames}
 use Rattle.canonical_file.specs.Written.{canonical_head}
 use Rattle.sample_file.specs.Sample.{sample_frame, numbers_below}
 use Rattle.sample_file.specs.Whole.{sample_frames}
@@ -25,11 +25,11 @@ parts-push w (g ∷ fs) f =
 
 -- the head is that of the frames before, and the part of the frame
 pub head-push : (fs : List Frame) (f : Frame)
-    → canonical_head (fs ++ f ∷ []) ≡ canonical_head fs ++ frame_part (after_frames begun fs) f
+    → canonical_head (fs ++ f ∷ []) ≡ canonical_head fs ++ frame_part (after_frames header_alone fs) f
 head-push fs f =
-    ap (λ bytes. header_bytes ++ bytes) (parts-push begun fs f)
-    ∙ sym (append_assoc header_bytes (flat_map (λ part. part) (frame_parts begun fs))
-    (frame_part (after_frames begun fs) f))
+    ap (λ bytes. header_bytes ++ bytes) (parts-push header_alone fs f)
+    ∙ sym (append_assoc header_bytes (flat_map (λ part. part) (frame_parts header_alone fs))
+    (frame_part (after_frames header_alone fs) f))
 
 -- ---- the frames of the sample file
 
@@ -41,14 +41,14 @@ frames-next k f is =
 
 -- what stands after it
 pub after-next : (k : ℕ) (f : Frame) → f ≡ sample_frame k
-    → after_frames begun (sample_frames (suc k)) ≡ after_frame (after_frames begun (sample_frames k)) f
+    → after_frames header_alone (sample_frames (suc k)) ≡ after_frame (after_frames header_alone (sample_frames k)) f
 after-next k f is =
-    ap (after_frames begun) (frames-next k f is) ∙ after-push begun (sample_frames k) f
+    ap (after_frames header_alone) (frames-next k f is) ∙ after-push header_alone (sample_frames k) f
 
 -- the head with it
 pub head-next : (k : ℕ) (f : Frame) → f ≡ sample_frame k
     → canonical_head (sample_frames (suc k))
-    ≡ canonical_head (sample_frames k) ++ frame_part (after_frames begun (sample_frames k)) f
+    ≡ canonical_head (sample_frames k) ++ frame_part (after_frames header_alone (sample_frames k)) f
 head-next k f is = ap canonical_head (frames-next k f is) ∙ head-push (sample_frames k) f
 
 -- before the first

@@ -5,7 +5,7 @@ use Rattle.std.proofs.lemmas.List.{take-append-le, take_min, take_all}
 use Rattle.frame_head.specs.Header.{header_bytes}
 use Rattle.frame_outside.specs.Shelf.{Outside}
 use Rattle.canonical_file.specs.declared.closing.Closing.{Closing}
-use Rattle.canonical_file.specs.Written.{begun, after_frames, closing_part, canonical_head, frame_part}
+use Rattle.canonical_file.specs.Written.{header_alone, after_frames, closing_part, canonical_head, frame_part}
 use Rattle.sample_file.specs.Sample.{sample_frame, sample_closing}
 use Rattle.sample_file.specs.Whole.{sample_frames, sample_bytes}
 use Rattle.sample_file.specs.Put.{sample_head, HasMade, HasPart}
@@ -19,7 +19,10 @@ head-none = sym (append-nil header_bytes) ∙ ap canonical_head (sym frames-none
 -- one more frame
 head-longer : (k : ℕ) → (rest : List ℕ) × (sample_head (suc k) ≡ sample_head k ++ rest)
 unfolding sample_head
-head-longer k = (frame_part (after_frames begun (sample_frames k)) (sample_frame k), head-next k (sample_frame k) refl)
+head-longer k = (
+  frame_part (after_frames header_alone (sample_frames k)) (sample_frame k),
+  head-next k (sample_frame k) refl,
+)
 
 -- so many more
 front-by : (more k : ℕ) → (rest : List ℕ) × (sample_head (more + k) ≡ sample_head k ++ rest)
@@ -35,15 +38,15 @@ front-by (suc more) k =
 
 -- The whole is the head of all frames and what comes after them.
 pub whole-is : (n : ℕ) (c : Closing) → c ≡ sample_closing
-    → sample_bytes n ≡ sample_head n ++ closing_part (after_frames begun (sample_frames n)) c
+    → sample_bytes n ≡ sample_head n ++ closing_part (after_frames header_alone (sample_frames n)) c
 unfolding sample_bytes sample_head
 whole-is n c is =
-    ap (λ c. canonical_head (sample_frames n) ++ closing_part (after_frames begun (sample_frames n)) c) (sym is)
+    ap (λ c. canonical_head (sample_frames n) ++ closing_part (after_frames header_alone (sample_frames n)) c) (sym is)
 
 whole-front : (k n : ℕ) → k ≤ n → (rest : List ℕ) × (sample_bytes n ≡ sample_head k ++ rest)
 whole-front k n few =
     let heads = front-by (n - k) k in
-    let part : List ℕ = closing_part (after_frames begun (sample_frames n)) sample_closing in
+    let part : List ℕ = closing_part (after_frames header_alone (sample_frames n)) sample_closing in
     let same : n ≡ (n - k) + k = omega arith in (
       heads.0 ++ part,
       whole-is n sample_closing refl ∙ ap (λ bytes. bytes ++ part) (ap sample_head same ∙ heads.1)

@@ -2,7 +2,7 @@
 use Rattle.std.proofs.Common.{◌≡◌, ℕ, [], None, length, refl}
 use Rattle.canonical_file.specs.Records.{records_of, entries_after}
 use Rattle.canonical_file.specs.Splices.{clash_of}
-use Rattle.canonical_file.specs.Written.{begun, frame_part}
+use Rattle.canonical_file.specs.Written.{header_alone, frame_part}
 use Rattle.sample_file.specs.Entries.{sample_entries}
 use Rattle.sample_file.specs.Sample.{sample_frame}
 use Rattle.sample_file.proofs.Computing.{computing}
@@ -29,10 +29,10 @@ clash-later k = refl
 
 -- ---- bytes
 
-pub size-first : (k : ℕ) → length (frame_part begun (sample_frame k)) ≡ 2481
+pub size-first : (k : ℕ) → length (frame_part header_alone (sample_frame k)) ≡ 2481
 unfolding computing
 size-first k = refl
 
-pub size-later : (k : ℕ) → length (frame_part (record begun { entries = sample_entries }) (sample_frame k)) ≡ 724
+pub size-later : (k : ℕ) → length (frame_part (record header_alone { entries = sample_entries }) (sample_frame k)) ≡ 724
 unfolding computing
 size-later k = refl

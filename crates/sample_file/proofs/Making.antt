@@ -6,7 +6,7 @@ use Rattle.std.proofs.Math.Seq.{take-append-add}
 use Rattle.std.proofs.lemmas.List.{length-append, length-map, take_all}
 use Rattle.frame_head.specs.Header.{header_bytes}
 use Rattle.frame_outside.specs.Shelf.{Outside, Files, Writing, Slot, Target, Told, IsTarget, Makes, Writes, WritesPart}
-use Rattle.frame_outside.specs.Shelf.{writing_begun, writing_at, wrote, write, slot_released, released, holding}
+use Rattle.frame_outside.specs.Shelf.{writing_begun, writing_at, wrote, write, slot_released, without_slot, holding}
 use Rattle.frame_outside.specs.Shelf.{files_written}
 use Rattle.frame_outside.proofs.Slots.{IsTarget-write, IsTarget-makes, writing_at-made}
 use Rattle.frame_outside.proofs.Writing.{writing_at-write, holding-holding}
@@ -28,7 +28,7 @@ take-write (suc n) (first ∷ others) (suc slot) bytes few =
 
 -- or one more was given, that writes the file of a name
 take-made : (name : List ℕ) (slots : List Slot) (made : Slot)
-    → take (length slots) (released name slots ++ made ∷ []) ≡ released name slots
+    → take (length slots) (without_slot name slots ++ made ∷ []) ≡ without_slot name slots
 take-made name [] made = refl
 take-made name (first ∷ others) made = ap (λ ss. slot_released name first ∷ ss) (take-made name others made)
 
@@ -42,9 +42,9 @@ length-write (first ∷ others) (suc slot) bytes = ap (λ k. suc k) (length-writ
 
 -- one more after one was given that writes the file of a name
 length-made : (name : List ℕ) (slots : List Slot) (made : Slot)
-    → length (released name slots ++ made ∷ []) ≡ length slots + 1
+    → length (without_slot name slots ++ made ∷ []) ≡ length slots + 1
 length-made name slots made =
-    length-append (released name slots) (made ∷ []) ∙ ap (λ k. k + 1) (length-map slots (slot_released name))
+    length-append (without_slot name slots) (made ∷ []) ∙ ap (λ k. k + 1) (length-map slots (slot_released name))
 
 -- ---- the calls
 
@@ -69,7 +69,7 @@ made-empty old new name slot makes =
       fresh = omega (arith, makes.number);
       target = IsTarget-makes old new name slot makes;
       writing = λ files told. ap (λ ss. writing_at ss slot) makes.slots
-          ∙ ap (writing_at (released name old.slots ++ made ∷ [])) makes.number
+          ∙ ap (writing_at (without_slot name old.slots ++ made ∷ [])) makes.number
           ∙ writing_at-made name old.slots (writing_begun old.files name)
           ∙ ap (λ f. writing_begun f name) told;
       files = makes.files;

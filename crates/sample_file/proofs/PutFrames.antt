@@ -9,7 +9,7 @@ use Rattle.link_graph.specs.Graph.{Layouts}
 use Rattle.frame_content.specs.Frames.{Frame}
 use Rattle.contents_table.specs.declared.layouts.ChannelLayouts.{ChannelLayouts}
 use Rattle.contents_table.specs.Layouts.{AreOf}
-use Rattle.canonical_file.specs.Written.{Written, begun, frame_part, after_frame, after_frames, canonical_head}
+use Rattle.canonical_file.specs.Written.{Written, header_alone, frame_part, after_frame, after_frames, canonical_head}
 use Rattle.canonical_writer.specs.declared.errors.WriteError.{WriteError}
 use Rattle.canonical_writer.specs.declared.errors.WriteError.TheVariants as write
 use Rattle.canonical_writer.specs.Parts.{CanBeWritten, IsReady, frame_in_order}
@@ -45,21 +45,21 @@ pub record AnswersFrame (old new : Outside) (w v : Writer) (held : List Entry) (
 
 -- the head with frame k
 head-more : (k : ℕ) (f : Frame) → IsKth k f
-    → sample_head (k + 1) ≡ sample_head k ++ frame_part (after_frames begun (sample_frames k)) f
+    → sample_head (k + 1) ≡ sample_head k ++ frame_part (after_frames header_alone (sample_frames k)) f
 unfolding IsKth sample_head
 head-more k f is = ap (λ n. canonical_head (sample_frames n)) (add-one k) ∙ head-next k f is
 
 -- what stands then
 after-more : (k : ℕ) (f : Frame) → IsKth k f
-    → after_frame (after_frames begun (sample_frames k)) f ≡ after_frames begun (sample_frames (k + 1))
+    → after_frame (after_frames header_alone (sample_frames k)) f ≡ after_frames header_alone (sample_frames (k + 1))
 unfolding IsKth
-after-more k f is = sym (ap (λ n. after_frames begun (sample_frames n)) (add-one k) ∙ after-next k f is)
+after-more k f is = sym (ap (λ n. after_frames header_alone (sample_frames n)) (add-one k) ∙ after-next k f is)
 
 -- it is due to be written
 due-more : (k : ℕ) (f : Frame) (closing : _) (w : Written) → IsKth k f → k < 100000 → closing ≡ None
-    → w ≡ after_frames begun (sample_frames k) → frame_due closing w f ≡ Ok tt
+    → w ≡ after_frames header_alone (sample_frames k) → frame_due closing w f ≡ Ok tt
 due-more k f closing w is few none are =
-    let last : Written = after_frames begun (sample_frames k) in
+    let last : Written = after_frames header_alone (sample_frames k) in
     let now : IsAfter k last = counted k in
     let then : IsAfter (suc k) (after_frame last f) = counted-next k last f is now in
     ap (λ closing. frame_due closing w f) none ∙ ap (λ (w : Written). frame_due None w f) are
@@ -133,7 +133,7 @@ puts-frame k old new w v s numbers result few has room frame answers = record {
 pub puts-none : (k : ℕ) (o : Outside) (w v : Writer) → IsPut k o o w v (Err write.NoMemory)
 puts-none k o w v = record {
   puts = record {
-    bytes = frame_part (after_frames begun (sample_frames k)) (sample_frame k);
+    bytes = frame_part (after_frames header_alone (sample_frames k)) (sample_frame k);
     more = head-more k (sample_frame k) (kth k);
     puts = hands_out_none o;
   };

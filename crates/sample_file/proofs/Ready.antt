@@ -8,7 +8,7 @@ use Rattle.std.proofs.lemmas.List.Elements.{All-nil}
 use Rattle.std.proofs.lemmas.Option.{none-some, same_Some, slice_get-get_or, slice_get_past}
 use Rattle.dictionary.specs.declared.entries.Entry.{Entry}
 use Rattle.dictionary.specs.Dictionary.{class_named}
-use Rattle.canonical_file.specs.Written.{begun, after_frames}
+use Rattle.canonical_file.specs.Written.{header_alone, after_frames}
 use Rattle.canonical_writer.specs.Writer.{Writer, fresh, none_met}
 use Rattle.sample_file.specs.Put.{IsWriterReady, HasWritten}
 use Rattle.sample_file.proofs.FramesMore.{frames-none}
@@ -38,7 +38,7 @@ ready-fresh slot = record {
 pub written-none : (w : Writer) → w ≡ fresh w.slot → HasWritten 0 w
 written-none w is =
     subst (HasWritten 0) (sym is) (record {
-      written = ap (after_frames begun) (sym frames-none);
+      written = ap (after_frames header_alone) (sym frames-none);
       closing = refl;
       error = refl;
       ready = ready-fresh w.slot;

@@ -5,7 +5,7 @@ use Rattle.frame_outside.specs.Shelf.{Outside, holding}
 use Rattle.frame_outside.proofs.Places.{hands_out_none}
 use Rattle.file_grammar.specs.Structure.{file_limit}
 use Rattle.canonical_file.specs.declared.closing.Closing.{Closing}
-use Rattle.canonical_file.specs.Written.{Written, begun, after_frames, closing_part, canonical_file}
+use Rattle.canonical_file.specs.Written.{Written, header_alone, after_frames, closing_part, canonical_file}
 use Rattle.canonical_writer.specs.declared.errors.WriteError.{WriteError}
 use Rattle.canonical_writer.specs.declared.errors.WriteError.TheVariants as write
 use Rattle.canonical_writer.specs.declared.writer.Summary.{Summary}
@@ -53,10 +53,11 @@ left-unbegun old new name n error outside (inl stays) = record {
   outside = outside;
 }
 left-unbegun old new name n error outside (inr part) =
-    let begun = begun-in_part old new name part in
+    let header_alone = begun-in_part old new name part in
     left-part old new name n error outside
-    (part-of_head old new name begun.0 0 n begun.1 (omega arith)
-    (subst (λ (bytes : List ℕ). HasMade old new name begun.0 (take begun.1 bytes)) head-none begun.2))
+    (part-of_head old new name header_alone.0 0 n header_alone.1 (omega arith)
+    (subst (λ (bytes : List ℕ). HasMade old new name header_alone.0
+    (take header_alone.1 bytes)) head-none header_alone.2))
 
 -- all frames were written
 pub left-head : (old new : Outside) (name : List ℕ) (slot n : ℕ) (error : WriteError) → IsOutside error
@@ -80,10 +81,10 @@ left-whole old new name slot n summary made is = record {
 
 -- what is due at the end
 end-is : (n : ℕ) (c : Closing) → c ≡ sample_closing → n ≤ 100000
-    → closing_due (after_frames begun (sample_frames n)) c ≡ Ok (summary_of n (length (sample_bytes n)))
+    → closing_due (after_frames header_alone (sample_frames n)) c ≡ Ok (summary_of n (length (sample_bytes n)))
 unfolding sample_bytes
 end-is n c is few =
-    let w : Written = after_frames begun (sample_frames n) in
+    let w : Written = after_frames header_alone (sample_frames n) in
     let now : IsAfter n w = counted n in
     let small : size_with w c ≤ file_limit = subst (λ c. size_with w c ≤ file_limit) (sym is) (end-size n few) in
     end-due w c small ∙ ap (λ frames. Ok (summary_of frames (size_with w c))) now.frames
@@ -129,7 +130,7 @@ pub left-ended : (n : ℕ) (old now new : Outside) (name : List ℕ) (w v : Writ
     → IsLeft old new name n result
 left-ended n old now new name w v closing result bytes few made has is held answer puts bytes_are =
     let c : Closing = printed_closing closing in
-    let last : Written = after_frames begun (sample_frames n) in
+    let last : Written = after_frames header_alone (sample_frames n) in
     let c_is : c ≡ sample_closing = ap printed_closing is ∙ closing-printed in
     let short : IsShortClosing c = subst IsShortClosing (sym c_is) closing-short in
     let held_is : v.closing ≡ Some c = ap (λ (w : Writer). w.closing) held in

@@ -4,7 +4,8 @@ use Rattle.std.proofs.lemmas.List.{length-append, length-map}
 use Rattle.file_grammar.specs.Structure.{file_limit, record_limit}
 use Rattle.frame_content.specs.Frames.{Frame}
 use Rattle.canonical_file.specs.declared.closing.Closing.{Closing}
-use Rattle.canonical_file.specs.Written.{Written, begun, after_frames, closing_part, canonical_head, canonical_file}
+use Rattle.canonical_file.specs.Written.{Written, header_alone, after_frames, closing_part, canonical_head}
+use Rattle.canonical_file.specs.Written.{canonical_file}
 use Rattle.canonical_file.proofs.Sizes.{head-size}
 use Rattle.sample_file.specs.Sample.{sample_frame, sample_closing, numbers_below}
 use Rattle.sample_file.specs.Whole.{sample_frames, sample_bytes}
@@ -23,18 +24,18 @@ length-frames n = length-map (numbers_below n) sample_frame ∙ length-numbers n
 
 -- What stands and the closing part are the whole file.
 pub whole-size : (frames : List Frame) (c : Closing)
-    → (after_frames begun frames).size + length (closing_part (after_frames begun frames) c)
+    → (after_frames header_alone frames).size + length (closing_part (after_frames header_alone frames) c)
     ≡ length (canonical_file c frames)
 whole-size frames c =
-    let part : List ℕ = closing_part (after_frames begun frames) c in
+    let part : List ℕ = closing_part (after_frames header_alone frames) c in
     sym (length-append (canonical_head frames) part ∙ ap (λ n. n + length part) (head-size frames))
 
 -- The size with the closing part is within the limit.
 pub end-size : (n : ℕ) → n ≤ 100000
-    → (after_frames begun (sample_frames n)).size
-    + length (closing_part (after_frames begun (sample_frames n)) sample_closing) ≤ file_limit
+    → (after_frames header_alone (sample_frames n)).size
+    + length (closing_part (after_frames header_alone (sample_frames n)) sample_closing) ≤ file_limit
 end-size n few =
-    let w : Written = after_frames begun (sample_frames n) in
+    let w : Written = after_frames header_alone (sample_frames n) in
     let now : IsAfter n w = counted n in
     let size : length (closing_part w sample_closing) ≤ record_limit + 900 = closing-size w now.entries in
     omega (arith, size, now.size)
@@ -43,7 +44,7 @@ pub sample-size : (n : ℕ) → n ≤ 100000 → length (sample_bytes n) ≤ fil
 unfolding sample_bytes
 sample-size n few =
     let size = end-size n few in
-    let same : (after_frames begun (sample_frames n)).size
-    + length (closing_part (after_frames begun (sample_frames n)) sample_closing)
+    let same : (after_frames header_alone (sample_frames n)).size
+    + length (closing_part (after_frames header_alone (sample_frames n)) sample_closing)
     ≡ length (canonical_file sample_closing (sample_frames n)) = whole-size (sample_frames n) sample_closing in
     omega (arith, size, same)

@@ -28,7 +28,8 @@ use Rattle.sample_file.proofs.Computing.{computing}
 samples : (n j : ℕ) (is : List ℕ) → AreBytes (map (sample n j) is)
 samples n j [] = All-from_recursion IsByte [] tt
 samples n j (i ∷ is) = All-map IsByte (sample n j) (i ∷ is)
-    (All-weaker (λ x. x ≡ x) (λ x. IsByte (sample n j x)) (λ x same. small x) (i ∷ is) (All-from_recursion (λ x. x ≡ x) (i ∷ is) (alike (i ∷ is))))
+    (All-weaker (λ x. x ≡ x) (λ x. IsByte (sample n j x)) (λ x same. small x) (i ∷ is)
+    (All-from_recursion (λ x. x ≡ x) (i ∷ is) (alike (i ∷ is))))
   where
     small : (x : ℕ) → IsByte (sample n j x)
     small x = omega arith
@@ -43,8 +44,26 @@ record-0 n small = record {
   entry = frame_header-writable;
   layout = entry_fields frame_header;
   is = refl;
-  fits = (lit≤ tt, (lit< tt, (omega arith, (omega arith, (lit< tt, (lit< tt, (tt, (tt, (tt, (tt, (lit< tt, tt)))))))))));
-  range = (tt, (tt, (tt, (tt, (tt, (tt, ((lit< tt, lit< tt), ((lit< tt, lit< tt), ((lit< tt, lit< tt), ((lit< tt, lit< tt), (tt, tt)))))))))));
+  fits = (
+    lit≤ tt,
+    (
+      lit< tt,
+      (omega arith, (omega arith, (lit< tt, (lit< tt, (tt, (tt, (tt, (tt, (lit< tt, tt))))))))),
+    ),
+  );
+  range = (
+    tt,
+    (
+      tt,
+      (
+        tt,
+        (
+          tt,
+          (tt, (tt, ((lit< tt, lit< tt), ((lit< tt, lit< tt), ((lit< tt, lit< tt), ((lit< tt, lit< tt), (tt, tt))))))),
+        ),
+      ),
+    ),
+  );
   instance = lit< tt;
   short = lit≤ tt;
 }
@@ -79,8 +98,50 @@ record-3 n small = record {
   entry = vector-writable;
   layout = entry_fields vector;
   is = refl;
-  fits = (lit≤ tt, (lit< tt, (lit< tt, (lit< tt, (lit< tt, (refl, (lit< tt, ((refl, All-from_recursion (FitsWidth Eight) (64 ∷ []) (lit< tt, tt)), ((refl, All-from_recursion (FitsWidth Eight) (one_sixty_fourth ∷ []) (lit< tt, tt)), ((refl, All-from_recursion (FitsWidth Eight) (0 ∷ []) (lit< tt, tt)), ((refl, All-from_recursion IsShortText (codes "s" ∷ []) (lit≤ tt, tt)), (lit≤ tt, (tt, (lit< tt, tt))))))))))))));
-  range = (tt, (tt, (tt, (tt, (tt, (samples n 0 (numbers_below 64), (tt, (tt, (tt, (tt, (tt, (tt, ((lit< tt, lit< tt), (tt, tt))))))))))))));
+  fits = (
+    lit≤ tt,
+    (
+      lit< tt,
+      (
+        lit< tt,
+        (
+          lit< tt,
+          (
+            lit< tt,
+            (
+              refl,
+              (
+                lit< tt,
+                (
+                  (refl, All-from_recursion (FitsWidth Eight) (64 ∷ []) (lit< tt, tt)),
+                  (
+                    (refl, All-from_recursion (FitsWidth Eight) (one_sixty_fourth ∷ []) (lit< tt, tt)),
+                    (
+                      (refl, All-from_recursion (FitsWidth Eight) (0 ∷ []) (lit< tt, tt)),
+                      ((refl, All-from_recursion IsShortText (codes "s" ∷ []) (lit≤ tt, tt)), (lit≤ tt, (tt, (lit< tt, tt)))),
+                    ),
+                  ),
+                ),
+              ),
+            ),
+          ),
+        ),
+      ),
+    ),
+  );
+  range = (
+    tt,
+    (
+      tt,
+      (
+        tt,
+        (
+          tt,
+          (tt, (samples n 0 (numbers_below 64), (tt, (tt, (tt, (tt, (tt, (tt, ((lit< tt, lit< tt), (tt, tt)))))))))),
+        ),
+      ),
+    ),
+  );
   instance = lit< tt;
   short = lit≤ tt;
 }
@@ -103,8 +164,50 @@ record-5 n small = record {
   entry = vector-writable;
   layout = entry_fields vector;
   is = refl;
-  fits = (lit≤ tt, (lit< tt, (lit< tt, (lit< tt, (lit< tt, (refl, (lit< tt, ((refl, All-from_recursion (FitsWidth Eight) (64 ∷ []) (lit< tt, tt)), ((refl, All-from_recursion (FitsWidth Eight) (one_sixty_fourth ∷ []) (lit< tt, tt)), ((refl, All-from_recursion (FitsWidth Eight) (0 ∷ []) (lit< tt, tt)), ((refl, All-from_recursion IsShortText (codes "s" ∷ []) (lit≤ tt, tt)), (lit≤ tt, (tt, (lit< tt, tt))))))))))))));
-  range = (tt, (tt, (tt, (tt, (tt, (samples n 1 (numbers_below 64), (tt, (tt, (tt, (tt, (tt, (tt, ((lit< tt, lit< tt), (tt, tt))))))))))))));
+  fits = (
+    lit≤ tt,
+    (
+      lit< tt,
+      (
+        lit< tt,
+        (
+          lit< tt,
+          (
+            lit< tt,
+            (
+              refl,
+              (
+                lit< tt,
+                (
+                  (refl, All-from_recursion (FitsWidth Eight) (64 ∷ []) (lit< tt, tt)),
+                  (
+                    (refl, All-from_recursion (FitsWidth Eight) (one_sixty_fourth ∷ []) (lit< tt, tt)),
+                    (
+                      (refl, All-from_recursion (FitsWidth Eight) (0 ∷ []) (lit< tt, tt)),
+                      ((refl, All-from_recursion IsShortText (codes "s" ∷ []) (lit≤ tt, tt)), (lit≤ tt, (tt, (lit< tt, tt)))),
+                    ),
+                  ),
+                ),
+              ),
+            ),
+          ),
+        ),
+      ),
+    ),
+  );
+  range = (
+    tt,
+    (
+      tt,
+      (
+        tt,
+        (
+          tt,
+          (tt, (samples n 1 (numbers_below 64), (tt, (tt, (tt, (tt, (tt, (tt, ((lit< tt, lit< tt), (tt, tt)))))))))),
+        ),
+      ),
+    ),
+  );
   instance = lit< tt;
   short = lit≤ tt;
 }
@@ -127,8 +230,50 @@ record-7 n small = record {
   entry = vector-writable;
   layout = entry_fields vector;
   is = refl;
-  fits = (lit≤ tt, (lit< tt, (lit< tt, (lit< tt, (lit< tt, (refl, (lit< tt, ((refl, All-from_recursion (FitsWidth Eight) (64 ∷ []) (lit< tt, tt)), ((refl, All-from_recursion (FitsWidth Eight) (one_sixty_fourth ∷ []) (lit< tt, tt)), ((refl, All-from_recursion (FitsWidth Eight) (0 ∷ []) (lit< tt, tt)), ((refl, All-from_recursion IsShortText (codes "s" ∷ []) (lit≤ tt, tt)), (lit≤ tt, (tt, (lit< tt, tt))))))))))))));
-  range = (tt, (tt, (tt, (tt, (tt, (samples n 2 (numbers_below 64), (tt, (tt, (tt, (tt, (tt, (tt, ((lit< tt, lit< tt), (tt, tt))))))))))))));
+  fits = (
+    lit≤ tt,
+    (
+      lit< tt,
+      (
+        lit< tt,
+        (
+          lit< tt,
+          (
+            lit< tt,
+            (
+              refl,
+              (
+                lit< tt,
+                (
+                  (refl, All-from_recursion (FitsWidth Eight) (64 ∷ []) (lit< tt, tt)),
+                  (
+                    (refl, All-from_recursion (FitsWidth Eight) (one_sixty_fourth ∷ []) (lit< tt, tt)),
+                    (
+                      (refl, All-from_recursion (FitsWidth Eight) (0 ∷ []) (lit< tt, tt)),
+                      ((refl, All-from_recursion IsShortText (codes "s" ∷ []) (lit≤ tt, tt)), (lit≤ tt, (tt, (lit< tt, tt)))),
+                    ),
+                  ),
+                ),
+              ),
+            ),
+          ),
+        ),
+      ),
+    ),
+  );
+  range = (
+    tt,
+    (
+      tt,
+      (
+        tt,
+        (
+          tt,
+          (tt, (samples n 2 (numbers_below 64), (tt, (tt, (tt, (tt, (tt, (tt, ((lit< tt, lit< tt), (tt, tt)))))))))),
+        ),
+      ),
+    ),
+  );
   instance = lit< tt;
   short = lit≤ tt;
 }
@@ -266,7 +411,12 @@ frame-writable : (n : ℕ) → n ≤ 100000 → IsWritableFrame all_entries (sam
 unfolding computing
 frame-writable n small = record {
   rows = rows n small;
-  end = record { held = refl; kind = refl; writable = record-end n small; label = record { entry = refl; values = refl } };
+  end = record {
+    held = refl;
+    kind = refl;
+    writable = record-end n small;
+    label = record { entry = refl; values = refl };
+  };
   header = 0;
   header_within = lit< tt;
   header_is = refl;
@@ -276,7 +426,8 @@ frame-writable n small = record {
 -- ---- the file
 
 -- one more of a list
-more-of : {X : Type 0} (P : X → Type 0) (xs : List X) (x : X) → AllByRecursion P xs → P x → AllByRecursion P (xs ++ x ∷ [])
+more-of : {X : Type 0} (P : X → Type 0) (xs : List X) (x : X) → AllByRecursion P xs → P x
+    → AllByRecursion P (xs ++ x ∷ [])
 more-of P [] x all one = (one, tt)
 more-of P (y ∷ ys) x (first, others) one = (first, more-of P ys x others one)
 

@@ -5,7 +5,7 @@ use Rattle.std.specs.List.{position, AllZip}
 use Rattle.scalar_types.specs.declared.Order.TheVariants.{Little}
 use Rattle.type_text.specs.declared.types.Link.{Link}
 use Rattle.record_values.specs.declared.values.Value.{Value}
-use Rattle.record_values.specs.Links.{linked}
+use Rattle.record_values.specs.Links.{with_links}
 use Rattle.scalar_types.specs.declared.Width.TheVariants.{One, Two, Four, Eight}
 use Rattle.layout_plan.specs.declared.fields.Form.{Form}
 use Rattle.layout_plan.specs.declared.fields.Form.TheVariants.{Number, Text, Link as LinkForm}
@@ -89,8 +89,8 @@ Puts node values old new =
 -- ---- layouts
 
 -- a list that counts by field k
-abbrev pub counted : Form → ℕ → Field
-counted form k = record { form = form; counts = Of k ∷ []; is_sum = false }
+abbrev pub counted_field : Form → ℕ → Field
+counted_field form k = record { form = form; counts = Of k ∷ []; is_sum = false }
 
 abbrev pub sum_field : Field
 sum_field = record { form = Number Four; counts = []; is_sum = true }
@@ -110,8 +110,9 @@ channel_fields =
 abbrev pub vector_fields : List Field
 vector_fields =
     single Text ∷ single (Number Two) ∷ single (Number Two) ∷ single (Number Eight) ∷ single (Number Eight)
-    ∷ counted (Number One) 4 ∷ single (Number Four) ∷ counted (Number Eight) 6 ∷ counted (Number Eight) 6
-    ∷ counted (Number Eight) 6 ∷ counted Text 6 ∷ single Text ∷ single LinkForm ∷ sum_field ∷ []
+    ∷ counted_field (Number One) 4 ∷ single (Number Four) ∷ counted_field (Number Eight) 6 ∷ counted_field
+    (Number Eight) 6
+    ∷ counted_field (Number Eight) 6 ∷ counted_field Text 6 ∷ single Text ∷ single LinkForm ∷ sum_field ∷ []
 
 abbrev pub end_fields : List Field
 end_fields = single (Number Four) ∷ single (Number Four) ∷ sum_field ∷ []
@@ -126,17 +127,17 @@ link_of class instance = record { class = class; instance = instance }
 
 -- the values with their links
 abbrev pub header_linked : ℕ → List Value
-header_linked k = linked (header_values k) (link_of 4 0 ∷ null_link ∷ null_link ∷ null_link ∷ [])
+header_linked k = with_links (header_values k) (link_of 4 0 ∷ null_link ∷ null_link ∷ null_link ∷ [])
 
 abbrev pub raw_linked : List Value
-raw_linked = linked raw_values (link_of 5 0 ∷ [])
+raw_linked = with_links raw_values (link_of 5 0 ∷ [])
 
 -- the link of channel j to the next one, which the last has not
 abbrev pub next_channel : ℕ → Link
 next_channel j = if nat_lt j 2 then link_of 5 (j + 1) else null_link
 
 abbrev pub channel_linked : ℕ → List Value
-channel_linked j = linked (channel_values j) (link_of 7 j ∷ next_channel j ∷ [])
+channel_linked j = with_links (channel_values j) (link_of 7 j ∷ next_channel j ∷ [])
 
 abbrev pub header_draft : ℕ → Draft
 header_draft k = record { node = node_of 3 0 Head; fields = header_fields; values = header_linked k }

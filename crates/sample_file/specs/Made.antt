@@ -1,7 +1,7 @@
 -- What is made of the sample file.
 use Rattle.std.specs.Prelude.{◌≡◌, ◌⊎◌, ℕ, ◌+◌, ◌≤◌, List, length, take, Option, Some, Result, Ok, Err}
 use Rattle.std.specs.Option.{option_map}
-use Rattle.frame_outside.specs.Shelf.{Outside, Files, holding, released}
+use Rattle.frame_outside.specs.Shelf.{Outside, Files, holding, without_slot}
 use Rattle.canonical_writer.specs.declared.writer.Summary.{Summary}
 use Rattle.sample_file.specs.Whole.{sample_bytes}
 
@@ -23,6 +23,6 @@ pub record MakesOneFile (old new : Outside) (name : List ℕ) : Type 0 where
   pub misses : new.misses ≡ old.misses
   pub taken : new.taken ≡ old.taken
   pub slots : (take (length old.slots) new.slots ≡ old.slots)
-      ⊎ (take (length old.slots) new.slots ≡ released name old.slots)
+      ⊎ (take (length old.slots) new.slots ≡ without_slot name old.slots)
   pub given : length new.slots ≤ length old.slots + 1
   pub files : (new.files ≡ old.files) ⊎ ((bytes : List ℕ) × (new.files ≡ option_map (holding name bytes) old.files))

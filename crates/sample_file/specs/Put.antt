@@ -1,8 +1,8 @@
 -- What is put of the sample file, frame after frame.
 use Rattle.std.specs.Prelude.{◌≡◌, ◌⊎◌, ℕ, ◌+◌, ◌≤◌, List, length, take, ◌++◌, Some, None, Result, Ok, Err, IfErr, OnOk}
 use Rattle.std.specs.Option.{option_map}
-use Rattle.frame_outside.specs.Shelf.{Outside, Told, IsTarget, writing_at, released, holding}
-use Rattle.canonical_file.specs.Written.{begun, after_frames, canonical_head}
+use Rattle.frame_outside.specs.Shelf.{Outside, Told, IsTarget, writing_at, without_slot, holding}
+use Rattle.canonical_file.specs.Written.{header_alone, after_frames, canonical_head}
 use Rattle.canonical_writer.specs.declared.errors.WriteError.{WriteError}
 use Rattle.canonical_writer.specs.declared.errors.WriteError.TheVariants as write
 use Rattle.canonical_writer.specs.declared.writer.Summary.{Summary}
@@ -26,7 +26,7 @@ pub record HasMade (old new : Outside) (name : List ℕ) (slot : ℕ) (bytes : L
   pub faults : old.faults ≤ new.faults
   pub misses : new.misses ≡ old.misses
   pub taken : new.taken ≡ old.taken
-  pub kept : take (length old.slots) new.slots ≡ released name old.slots
+  pub kept : take (length old.slots) new.slots ≡ without_slot name old.slots
   pub given : length new.slots ≡ length old.slots + 1
   pub fresh : length old.slots ≤ slot
   pub target : IsTarget new.slots slot
@@ -59,7 +59,7 @@ IsWriterReady w = IsReady w.met w.closing w.written.entries sample_entries
 
 -- A writer has written the first k frames, and may write more of them.
 pub record HasWritten (k : ℕ) (w : Writer) : Type 0 where
-  pub written : w.written ≡ after_frames begun (sample_frames k)
+  pub written : w.written ≡ after_frames header_alone (sample_frames k)
   pub closing : w.closing ≡ None
   pub error : w.error ≡ None
   pub ready : IsWriterReady w

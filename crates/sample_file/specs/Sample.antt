@@ -65,8 +65,8 @@ vector_values k j =
 abbrev pub end_values : ℕ → List Value
 end_values k = Num 1 ∷ Num k ∷ Num 0 ∷ []
 
--- Frame k: FrameH leads to FrRawData, that to the first channel, and each channel to its vector and to the next one. The
--- records stand in the order in which these links first lead to them.
+-- Frame k: FrameH leads to FrRawData, that to the first channel, and each channel to its vector and to the next one.
+-- The records stand in the order in which these links first lead to them.
 unfoldable pub sample_frame : ℕ → Frame
 sample_frame k = record {
   rows =

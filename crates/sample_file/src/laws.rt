@@ -1,5 +1,5 @@
-//! The laws of the sample file. Each is the contract of a function that does nothing: a crate that calls the function has
-//! the law.
+//! The laws of the sample file. Each is the contract of a function that does nothing: a crate that calls the function
+//! has the law.
 
 ghost use Rattle.sample_file.specs.Laws.{SampleBytesAreCanonical, SampleFilesAreReadBack};
 

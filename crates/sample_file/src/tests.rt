@@ -32,7 +32,8 @@ fn frames_are_filled(rt: HostRuntime) -> Result<(), Fail> {
     Ok(())
 }
 
-/// Fills frame k, and tells whether its order, the bytes of its bodies, and the last sample of its last vector are these.
+/// Fills frame k, and tells whether its order, the bytes of its bodies, and the last sample of its last vector are
+/// these.
 fn is_filled(alloc: Global, frame: &mut SampleFrame, k: u32, last: u8) -> Result<bool, AllocError>
     requires room { IsSampleRoom frame.old }
     requires small { k ≤ 100000 }

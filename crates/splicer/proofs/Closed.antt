@@ -19,7 +19,7 @@ use Rattle.canonical_file.specs.declared.closing.Closing.{Closing}
 use Rattle.canonical_file.specs.Ranges.{AreBytes}
 use Rattle.canonical_file.specs.Ordered.{IsInOrder}
 use Rattle.canonical_file.specs.Splices.{closing_entries, entries_used}
-use Rattle.canonical_file.specs.Written.{Written, begun, after_frames}
+use Rattle.canonical_file.specs.Written.{Written, header_alone, after_frames}
 use Rattle.canonical_laws.specs.Content.{closing_by}
 use Rattle.canonical_laws.specs.Writable.{IsWritableTable, IsWritableClosing}
 use Rattle.canonical_laws.specs.Sources.{printed_entries}
@@ -37,7 +37,7 @@ use Rattle.frame_reader.specs.Given.{Frames, HasGiven, GivesAll}
 use Rattle.frame_reader.proofs.Ended.{all-given}
 use Rattle.splicer.specs.declared.errors.InputError.{InputError}
 use Rattle.splicer.specs.declared.errors.InputError.TheVariants as input
-use Rattle.splicer.specs.Errors.{unread}
+use Rattle.splicer.specs.Errors.{error_of_read}
 use Rattle.splicer.specs.Put.{HasPut, IsEnded, Puts, PutsAll}
 use Rattle.splicer.proofs.Courses.{passes-stood}
 use Rattle.splicer.proofs.Unread.{puts-part}
@@ -99,17 +99,17 @@ closing-in dictionary c w = by c.table w.table
 -- The entries that the frames of a file use, and those of its closing, agree.
 pub closing-agrees : (file : List ℕ) (order : Order) (items : List Item) (last : Before) (ordered : List Frame)
     → AreBytes file → IsWellFormed file order items last → AllZip IsInOrder (frames_among order items) ordered
-    → AreConsistent (entries_used (after_frames begun ordered).entries (Some (closing_by last.dictionary)))
+    → AreConsistent (entries_used (after_frames header_alone ordered).entries (Some (closing_by last.dictionary)))
 closing-agrees file order items last ordered bytes whole in_order =
     let dictionary : List Entry = printed_entries last.dictionary in
     let closing : Closing = closing_by last.dictionary in
-    let used : AreIn dictionary (after_frames begun ordered).entries =
-    (frames-needed dictionary begun ordered (none-needed dictionary)
+    let used : AreIn dictionary (after_frames header_alone ordered).entries =
+    (frames-needed dictionary header_alone ordered (none-needed dictionary)
     (orders-writable dictionary (frames_among order items) ordered
     (source_frames file order items last bytes whole.begins) in_order)).held in
-    consistent-in dictionary ((after_frames begun ordered).entries ++ closing_entries closing)
+    consistent-in dictionary ((after_frames header_alone ordered).entries ++ closing_entries closing)
     (source_entries file order items last bytes whole.begins).dictionary
-    (both (IsIn dictionary) (after_frames begun ordered).entries (closing_entries closing) used
+    (both (IsIn dictionary) (after_frames header_alone ordered).entries (closing_entries closing) used
     (closing-in dictionary closing (source_closing file order items last bytes whole)))
 
 -- ---- how an input is left
@@ -161,7 +161,7 @@ puts-first file r None stood old now name inputs w new c bytes ended none put is
         written = put.written.written;
         error = put.written.error;
         agree = subst (λ (x : Written). AreConsistent (entries_used x.entries (Some own)))
-            (sym (put.written.written ∙ ap (after_frames begun) stand))
+            (sym (put.written.written ∙ ap (after_frames header_alone) stand))
             (closing-agrees file r.reader.order put.given.items r.reader.before put.ordered bytes whole.whole
             (subst (λ frames. AllZip IsInOrder frames put.ordered) put.given.frames_are put.in_order));
       };
@@ -185,7 +185,7 @@ puts-first file r None stood old now name inputs w new c bytes ended none put is
 pub puts-no_closing : (file : List ℕ) (r : Frames) (closing : Option Closing) (stood : List Frame) (old now : Outside)
     (name : List ℕ) (inputs : ℕ) (w : Writer) (error : ReadError) → ((fault : Fault) → error ≡ read.Fault fault → ⊥)
     → (error ≡ read.Device → ⊥) → HasPut file r closing stood old now name inputs w
-    → Puts file closing stood old now name inputs w (Err (unread error))
+    → Puts file closing stood old now name inputs w (Err (error_of_read error))
 puts-no_closing file r closing stood old now name inputs w (read.Fault fault) no_fault no_device put =
     absurd (no_fault fault refl)
 puts-no_closing file r closing stood old now name inputs w read.Device no_fault no_device put =
@@ -195,7 +195,7 @@ puts-no_closing file r closing stood old now name inputs w read.NoMemory no_faul
 
 -- a fault that is given on is one that the reader found
 pub unread-fault : (error : ReadError) (fault : Fault)
-    → ◌≡◌ {A = Result Unit InputError} (Err (unread error)) (Err (input.Fault fault)) → error ≡ read.Fault fault
+    → ◌≡◌ {A = Result Unit InputError} (Err (error_of_read error)) (Err (input.Fault fault)) → error ≡ read.Fault fault
 unread-fault (read.Fault other) fault is = cc
 unread-fault read.Device fault is = absurd cc
 unread-fault read.NoMemory fault is = absurd cc

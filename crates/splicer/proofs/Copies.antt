@@ -7,7 +7,7 @@ use Rattle.file_grammar.specs.Structure.{file_limit}
 use Rattle.frame_content.specs.Frames.{Frame}
 use Rattle.canonical_file.specs.declared.closing.Closing.{Closing}
 use Rattle.canonical_file.specs.Ordered.{IsInOrder}
-use Rattle.canonical_file.specs.Written.{begun, after_frames, canonical_head, closing_part, canonical_file}
+use Rattle.canonical_file.specs.Written.{header_alone, after_frames, canonical_head, closing_part, canonical_file}
 use Rattle.canonical_file.specs.Contents.{Content, IsCanonical}
 use Rattle.canonical_file.proofs.Sizes.{head-size}
 use Rattle.canonical_laws.specs.Content.{HasContent}
@@ -28,21 +28,21 @@ at-end closing stood due = IsDueAtEnd closing stood due
 
 -- the bytes of a canonical file are those that were told before its closing part, and those of that
 pub file-size : (closing : Closing) (frames : List Frame)
-    → length (canonical_file closing frames) ≡ size_with (after_frames begun frames) closing
+    → length (canonical_file closing frames) ≡ size_with (after_frames header_alone frames) closing
 file-size closing frames =
-    length-append (canonical_head frames) (closing_part (after_frames begun frames) closing)
-    ∙ ap (λ n. n + length (closing_part (after_frames begun frames) closing)) (head-size frames)
+    length-append (canonical_head frames) (closing_part (after_frames header_alone frames) closing)
+    ∙ ap (λ n. n + length (closing_part (after_frames header_alone frames) closing)) (head-size frames)
 
 -- what is due to be written whole at the end is the file of what is held and stands, which is within the limit
 closed-writes : (long : Bool) (own closing : Closing) (stood frames : List Frame) → nat_lt file_limit
-    (size_with (after_frames begun stood) own) ≡ long
+    (size_with (after_frames header_alone stood) own) ≡ long
     → Writes closing frames
     ≡ closed_due (if long then Err error.OutputLimit
     else Ok (record {
-      frames = (after_frames begun stood).frames;
-      bytes = size_with (after_frames begun stood) own;
+      frames = (after_frames header_alone stood).frames;
+      bytes = size_with (after_frames header_alone stood) own;
     })) own stood
-    → (closing ≡ own) × (frames ≡ stood) × (size_with (after_frames begun stood) own ≤ file_limit)
+    → (closing ≡ own) × (frames ≡ stood) × (size_with (after_frames header_alone stood) own ≤ file_limit)
 closed-writes true own closing stood frames long is = absurd cc
 closed-writes false own closing stood frames long is = (cc, cc, ltb-false _ _ long)
 
@@ -59,7 +59,8 @@ copied : (file : List ℕ) (closing : Closing) (frames given ordered : List Fram
 copied file closing frames given ordered ending gives in_order (Refuses error stood) came is = absurd cc
 copied file closing frames given ordered (Breaks fault) gives in_order (Passes stood) came is = absurd cc
 copied file closing frames given ordered (Closes own) gives in_order (Passes stood) came is =
-    let same = closed-writes (nat_lt file_limit (size_with (after_frames begun stood) own)) own closing stood frames
+    let same = closed-writes
+    (nat_lt file_limit (size_with (after_frames header_alone stood) own)) own closing stood frames
     refl is in
     let stood_is : stood ≡ ordered = passes-stood None [] ordered stood came in
     let file_is : canonical_file closing frames ≡ canonical_file own stood =

@@ -4,7 +4,7 @@ use Rattle.std.proofs.Common.{◌∙◌, arith}
 use Rattle.std.proofs.lemmas.List.{append_assoc, append-nil, length-append}
 use Rattle.frame_content.specs.Frames.{Frame}
 use Rattle.canonical_file.specs.declared.closing.Closing.{Closing}
-use Rattle.canonical_file.specs.Written.{begun, after_frames}
+use Rattle.canonical_file.specs.Written.{header_alone, after_frames}
 use Rattle.canonical_writer.specs.declared.errors.WriteError.{WriteError}
 use Rattle.canonical_writer.specs.Writer.{frame_due}
 use Rattle.splicer.specs.Due.{Course, Passes, Refuses, course_by, course}
@@ -24,9 +24,9 @@ pub course-append : (closing : Option Closing) (stood fs gs : List Frame)
     → course closing stood (fs ++ gs) ≡ course_then (course closing stood fs) (λ s. course closing s gs)
 course-append closing stood [] gs = refl
 course-append closing stood (f ∷ fs) gs =
-    ap (course_by (frame_due closing (after_frames begun stood) f) stood)
+    ap (course_by (frame_due closing (after_frames header_alone stood) f) stood)
     (course-append closing (stood ++ f ∷ []) fs gs)
-    ∙ sym (by-then (frame_due closing (after_frames begun stood) f) stood (course closing (stood ++ f ∷ []) fs)
+    ∙ sym (by-then (frame_due closing (after_frames header_alone stood) f) stood (course closing (stood ++ f ∷ []) fs)
     (λ s. course closing s gs))
 
 -- after a frame that is refused, no more is judged
@@ -45,7 +45,7 @@ pub course-longer : (closing : Option Closing) (stood fs : List Frame)
     → (more : List Frame) × (stood_of (course closing stood fs) ≡ stood ++ more)
 course-longer closing stood [] = ([], sym (append-nil stood))
 course-longer closing stood (f ∷ fs) =
-    by (frame_due closing (after_frames begun stood) f) (course-longer closing (stood ++ f ∷ []) fs)
+    by (frame_due closing (after_frames header_alone stood) f) (course-longer closing (stood ++ f ∷ []) fs)
   where
     by : (due : Result Unit WriteError)
         → (more : List Frame) × (stood_of (course closing (stood ++ f ∷ []) fs) ≡ (stood ++ f ∷ []) ++ more)
@@ -63,7 +63,8 @@ pub passes-stood : (closing : Option Closing) (stood fs then_stand : List Frame)
     → course closing stood fs ≡ Passes then_stand → then_stand ≡ stood ++ fs
 passes-stood closing stood [] then_stand passes = sym (same-passed passes) ∙ sym (append-nil stood)
 passes-stood closing stood (f ∷ fs) then_stand passes =
-    by (frame_due closing (after_frames begun stood) f) (passes-stood closing (stood ++ f ∷ []) fs then_stand) passes
+    by (frame_due closing (after_frames header_alone stood) f)
+    (passes-stood closing (stood ++ f ∷ []) fs then_stand) passes
   where
     by : (due : Result Unit WriteError)
         → (course closing (stood ++ f ∷ []) fs ≡ Passes then_stand → then_stand ≡ (stood ++ f ∷ []) ++ fs)
@@ -86,7 +87,8 @@ pub refused-short : (closing : Option Closing) (stood fs then_stand : List Frame
     → course closing stood fs ≡ Refuses error then_stand → length then_stand < length stood + length fs
 refused-short closing stood [] then_stand error refuses = absurd cc
 refused-short closing stood (f ∷ fs) then_stand error refuses =
-    by (frame_due closing (after_frames begun stood) f) (refused-short closing (stood ++ f ∷ []) fs then_stand error)
+    by (frame_due closing (after_frames header_alone stood) f)
+    (refused-short closing (stood ++ f ∷ []) fs then_stand error)
     refuses
   where
     by : (due : Result Unit WriteError)
@@ -110,20 +112,22 @@ course-after closing stood fs gs then_stand passes =
 -- one more frame is judged after those that passed
 course-next : (closing : Option Closing) (stood fs then_stand : List Frame) (f : Frame)
     → course closing stood fs ≡ Passes then_stand
-    → course closing stood (fs ++ f ∷ []) ≡ course_by (frame_due closing (after_frames begun then_stand) f) then_stand
+    → course closing stood (fs ++ f ∷ [])
+    ≡ course_by (frame_due closing (after_frames header_alone then_stand) f) then_stand
     (Passes (then_stand ++ f ∷ []))
 course-next closing stood fs then_stand f passes = course-after closing stood fs (f ∷ []) then_stand passes
 
 -- one more frame that is taken, and one that is refused
 pub passes-more : (closing : Option Closing) (stood fs then_stand : List Frame) (f : Frame)
-    → course closing stood fs ≡ Passes then_stand → frame_due closing (after_frames begun then_stand) f ≡ Ok tt
+    → course closing stood fs ≡ Passes then_stand → frame_due closing (after_frames header_alone then_stand) f ≡ Ok tt
     → course closing stood (fs ++ f ∷ []) ≡ Passes (then_stand ++ f ∷ [])
 passes-more closing stood fs then_stand f passes due =
     course-next closing stood fs then_stand f passes
     ∙ ap (λ (due : Result Unit WriteError). course_by due then_stand (Passes (then_stand ++ f ∷ []))) due
 
 pub refuses-next : (closing : Option Closing) (stood fs then_stand : List Frame) (f : Frame) (error : WriteError)
-    → course closing stood fs ≡ Passes then_stand → frame_due closing (after_frames begun then_stand) f ≡ Err error
+    → course closing stood fs ≡ Passes then_stand
+    → frame_due closing (after_frames header_alone then_stand) f ≡ Err error
     → course closing stood (fs ++ f ∷ []) ≡ Refuses error then_stand
 refuses-next closing stood fs then_stand f error passes due =
     course-next closing stood fs then_stand f passes

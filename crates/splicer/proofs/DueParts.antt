@@ -11,7 +11,7 @@ use Rattle.canonical_file.specs.declared.closing.Closing.{Closing}
 use Rattle.canonical_file.specs.Records.{piece_bytes, new_entry, entry_fields}
 use Rattle.canonical_file.specs.Bytes.{body_bytes}
 use Rattle.contents_table.specs.Told.{values_told}
-use Rattle.canonical_file.specs.Written.{Written, begun, after_frame, after_frames, frame_part, frame_parts}
+use Rattle.canonical_file.specs.Written.{Written, header_alone, after_frame, after_frames, frame_part, frame_parts}
 use Rattle.canonical_file.specs.Written.{table_piece, after_table, end_told, end_bytes, end_size, closed_size, way_back}
 use Rattle.canonical_file.specs.Written.{closing_part, canonical_head}
 use Rattle.canonical_file.proofs.EndSizes.{structure-size}
@@ -28,12 +28,12 @@ parts-append w (f ∷ fs) gs = ap (λ parts. frame_part w f ∷ parts) (parts-ap
 head-append : (stood more : List Frame)
     → (rest : List ℕ) × (canonical_head (stood ++ more) ≡ canonical_head stood ++ rest)
 head-append stood more =
-    let first : List (List ℕ) = frame_parts begun stood in
-    let second : List (List ℕ) = frame_parts (after_frames begun stood) more in
+    let first : List (List ℕ) = frame_parts header_alone stood in
+    let second : List (List ℕ) = frame_parts (after_frames header_alone stood) more in
     let front : List ℕ = flat_map (λ part. part) first in
     let back : List ℕ = flat_map (λ part. part) second in (
       back,
-      ap (λ parts. header_bytes ++ flat_map (λ part. part) parts) (parts-append begun stood more)
+      ap (λ parts. header_bytes ++ flat_map (λ part. part) parts) (parts-append header_alone stood more)
           ∙ ap (λ bytes. header_bytes ++ bytes) (flat_map-append (λ part. part) first second)
           ∙ sym (append_assoc header_bytes front back),
     )
@@ -65,7 +65,7 @@ part-of_due stood more (Writes closing frames) n are within =
     let head : List ℕ = canonical_head stood in
     let whole = head-append stood more in
     let rest : List ℕ = whole.0 in
-    let part : List ℕ = closing_part (after_frames begun frames) closing in
+    let part : List ℕ = closing_part (after_frames header_alone frames) closing in
     let is : canonical_head frames ≡ head ++ rest = ap canonical_head are ∙ whole.1 in
     let size : length (canonical_head frames) ≡ length head + length rest =
     ap (λ (bytes : List ℕ). length bytes) is ∙ length-append head rest in (
@@ -74,7 +74,7 @@ part-of_due stood more (Writes closing frames) n are within =
         within,
         size,
         length-append (canonical_head frames) part,
-        closing-some (after_frames begun frames) closing,
+        closing-some (after_frames header_alone frames) closing,
       ),
       sym (take-append-le n head rest within) ∙ ap (take n) (sym is)
           ∙ sym (take-append-le n (canonical_head frames) part (omega (arith, within, size))),

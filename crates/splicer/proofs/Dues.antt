@@ -9,7 +9,7 @@ use Rattle.file_grammar.specs.declared.fault.Fault.{Fault}
 use Rattle.frame_content.specs.Frames.{Frame}
 use Rattle.canonical_file.specs.declared.closing.Closing.{Closing}
 use Rattle.canonical_file.specs.Ordered.{IsInOrder}
-use Rattle.canonical_file.specs.Written.{begun, after_frames}
+use Rattle.canonical_file.specs.Written.{header_alone, after_frames}
 use Rattle.canonical_laws.specs.Content.{HasContent}
 use Rattle.canonical_writer.specs.declared.errors.WriteError.{WriteError}
 use Rattle.canonical_writer.specs.declared.writer.Summary.{Summary}
@@ -106,7 +106,7 @@ longer_held (Some file) closing stood number next due later is =
 longer_at_end : (closing : Option Closing) (stood : List Frame) (due : Due) → IsDueAtEnd closing stood due
     → (more : List Frame) × (frames_of due ≡ stood ++ more)
 longer_at_end None stood due is = absurd is
-longer_at_end (Some closing) stood due is = by (closing_due (after_frames begun stood) closing) is where
+longer_at_end (Some closing) stood due is = by (closing_due (after_frames header_alone stood) closing) is where
   by : (ends : Result Summary WriteError) → due ≡ closed_due ends closing stood
       → (more : List Frame) × (frames_of due ≡ stood ++ more)
   by (Ok summary) is = ([], ap frames_of is ∙ sym (append-nil stood))
@@ -209,8 +209,9 @@ some_held (Some file) closing stood number next later =
 -- after one input at least a closing is held
 some_at_end : (closing : Option Closing) (own : Closing) (stood : List Frame)
     → (due : Due) × IsDueAtEnd (held_then closing own) stood due
-some_at_end None own stood = (closed_due (closing_due (after_frames begun stood) own) own stood, refl)
-some_at_end (Some first) own stood = (closed_due (closing_due (after_frames begun stood) first) first stood, refl)
+some_at_end None own stood = (closed_due (closing_due (after_frames header_alone stood) own) own stood, refl)
+some_at_end (Some first) own stood =
+    (closed_due (closing_due (after_frames header_alone stood) first) first stood, refl)
 
 -- Names of files have one splice that is due, and some.
 pub no-two-dues : (files : Files) (names : List (List ℕ)) (closing : Option Closing) (stood : List Frame) (number : ℕ)

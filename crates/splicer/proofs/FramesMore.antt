@@ -11,7 +11,7 @@ use Rattle.file_grammar.specs.MayStand.{frames_limit}
 use Rattle.frame_content.specs.Frames.{Frame}
 use Rattle.canonical_file.specs.declared.closing.Closing.{Closing}
 use Rattle.canonical_file.specs.Splices.{clash_of}
-use Rattle.canonical_file.specs.Written.{Written, begun, frame_part, frame_parts, after_frame, after_frames}
+use Rattle.canonical_file.specs.Written.{Written, header_alone, frame_part, frame_parts, after_frame, after_frames}
 use Rattle.canonical_file.specs.Written.{canonical_head}
 use Rattle.canonical_writer.specs.declared.errors.WriteError.{WriteError}
 use Rattle.canonical_writer.specs.declared.errors.WriteError.TheVariants as write
@@ -35,11 +35,11 @@ parts-push w (g ∷ fs) f =
 
 -- the head is that of the frames before, and the part of the frame
 pub head-push : (fs : List Frame) (f : Frame)
-    → canonical_head (fs ++ f ∷ []) ≡ canonical_head fs ++ frame_part (after_frames begun fs) f
+    → canonical_head (fs ++ f ∷ []) ≡ canonical_head fs ++ frame_part (after_frames header_alone fs) f
 head-push fs f =
-    ap (λ bytes. header_bytes ++ bytes) (parts-push begun fs f)
-    ∙ sym (append_assoc header_bytes (flat_map (λ part. part) (frame_parts begun fs))
-    (frame_part (after_frames begun fs) f))
+    ap (λ bytes. header_bytes ++ bytes) (parts-push header_alone fs f)
+    ∙ sym (append_assoc header_bytes (flat_map (λ part. part) (frame_parts header_alone fs))
+    (frame_part (after_frames header_alone fs) f))
 
 -- ---- what is due of the frame
 

@@ -14,7 +14,7 @@ use Rattle.canonical_file.specs.declared.closing.Closing.{Closing}
 use Rattle.canonical_file.specs.Ranges.{AreBytes}
 use Rattle.canonical_file.specs.Ordered.{IsInOrder}
 use Rattle.canonical_file.specs.Splices.{NoneClashes}
-use Rattle.canonical_file.specs.Written.{begun, after_frames, canonical_head}
+use Rattle.canonical_file.specs.Written.{header_alone, after_frames, canonical_head}
 use Rattle.canonical_file.proofs.Sizes.{head-size}
 use Rattle.canonical_laws.specs.Content.{HasContent}
 use Rattle.canonical_laws.specs.Writable.{IsWritableFrame}
@@ -105,7 +105,7 @@ IsUnfinished frames = (n : ℕ) → WellFormed (take n (canonical_head frames)) 
 -- frames within the limits are few
 pub within-few : (fs : List Frame) → AreWithin fs → length fs ≤ frames_limit
 within-few fs within =
-    subst (λ n. n ≤ frames_limit) (frames-counted begun fs ∙ zero-add (length fs)) within.few
+    subst (λ n. n ≤ frames_limit) (frames-counted header_alone fs ∙ zero-add (length fs)) within.few
 
 -- and their head is within the limit of files
 within-short : (fs : List Frame) → AreWithin fs → length (canonical_head fs) ≤ file_limit
@@ -144,7 +144,7 @@ more-of-files closing stood ordered then_stand are one taken =
       is = taken.stand ∙ ap (λ fs. fs ++ taken.more) are.is ∙ append_assoc are.front are.back taken.more;
       spliced = more_spliced closing are.front are.back taken.more are.spliced
           (each-somewhere more.dictionary taken.more more.sound more.are)
-          (subst (λ fs. NoneClashes (Some closing) (after_frames begun fs) taken.more) are.is taken.free);
+          (subst (λ fs. NoneClashes (Some closing) (after_frames header_alone fs) taken.more) are.is taken.free);
     }
 
 -- ---- what stands between inputs

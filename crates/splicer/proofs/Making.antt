@@ -9,7 +9,7 @@ use Rattle.std.specs.Str.{bytes_eq}
 use Rattle.frame_head.specs.Header.{header_bytes}
 use Rattle.frame_outside.specs.Shelf.{Outside, Files, Reading, Writing, Slot, Source, Target, Told, IsTarget, Opens}
 use Rattle.frame_outside.specs.Shelf.{Refuses, Makes, Writes, WritesPart, beginning, beginning_of, writing_begun}
-use Rattle.frame_outside.specs.Shelf.{writing_at, reading_at, pass, wrote, write, slot_released, released, holding}
+use Rattle.frame_outside.specs.Shelf.{writing_at, reading_at, pass, wrote, write, slot_released, without_slot, holding}
 use Rattle.frame_outside.specs.Shelf.{files_written}
 use Rattle.frame_outside.specs.SlotReader.{Draws}
 use Rattle.frame_outside.proofs.Slots.{length-pass, reading_at-given, IsTarget-pass, IsTarget-write, IsTarget-makes}
@@ -44,7 +44,7 @@ take-write (suc n) (first ∷ others) (suc slot) bytes few =
 
 -- or more were given, of which the last writes the file of a name
 take-made : (name : List ℕ) (slots more : List Slot) (made : Slot)
-    → take (length slots) (released name (slots ++ more) ++ made ∷ []) ≡ released name slots
+    → take (length slots) (without_slot name (slots ++ more) ++ made ∷ []) ≡ without_slot name slots
 take-made name [] more made = refl
 take-made name (first ∷ others) more made =
     ap (λ ss. slot_released name first ∷ ss) (take-made name others more made)
@@ -63,9 +63,9 @@ length-more slots slot = length-append slots (slot ∷ [])
 
 -- and after one was given that writes the file of a name
 length-made : (name : List ℕ) (slots : List Slot) (made : Slot)
-    → length (released name slots ++ made ∷ []) ≡ length slots + 1
+    → length (without_slot name slots ++ made ∷ []) ≡ length slots + 1
 length-made name slots made =
-    length-more (released name slots) made ∙ ap (λ k. k + 1) (length-map slots (slot_released name))
+    length-more (without_slot name slots) made ∙ ap (λ k. k + 1) (length-map slots (slot_released name))
 
 -- ---- the calls
 
@@ -106,13 +106,13 @@ made-empty old opened new input name read slot opens makes =
     record {
       faults = omega (arith, opens.faults, makes.faults);
       misses = makes.misses ∙ opens.misses;
-      kept = ap (take (length old.slots)) (makes.slots ∙ ap (λ ss. released name ss ++ made ∷ []) opens.slots)
+      kept = ap (take (length old.slots)) (makes.slots ∙ ap (λ ss. without_slot name ss ++ made ∷ []) opens.slots)
           ∙ take-made name old.slots (source ∷ []) made;
       given = omega (arith, more, last);
       fresh = omega (arith, makes.number, more);
       target = IsTarget-makes opened new name slot makes;
       writing = λ files told. ap (λ ss. writing_at ss slot) makes.slots
-          ∙ ap (writing_at (released name opened.slots ++ made ∷ [])) makes.number
+          ∙ ap (writing_at (without_slot name opened.slots ++ made ∷ [])) makes.number
           ∙ writing_at-made name opened.slots (writing_begun opened.files name)
           ∙ ap (λ f. writing_begun f name) (opens.files ∙ told);
       files = makes.files ∙ ap (option_map (holding name [])) opens.files;

@@ -10,7 +10,7 @@ use Rattle.frame_content.specs.Frames.{Frame}
 use Rattle.canonical_file.specs.declared.closing.Closing.{Closing}
 use Rattle.canonical_file.specs.Ranges.{AreBytes}
 use Rattle.canonical_file.specs.Ordered.{IsInOrder}
-use Rattle.canonical_file.specs.Written.{begun, after_frames, canonical_head, closing_part, canonical_file}
+use Rattle.canonical_file.specs.Written.{header_alone, after_frames, canonical_head, closing_part, canonical_file}
 use Rattle.canonical_file.specs.Contents.{Content}
 use Rattle.canonical_laws.specs.Content.{HasContent}
 use Rattle.canonical_writer.specs.declared.errors.WriteError.TheVariants as error
@@ -49,11 +49,11 @@ all-first file c ordered has in_order = record {
 
 -- a closing is taken where the whole file is within the limit
 closing-taken : (closing : Closing) (frames : List Frame) → length (canonical_file closing frames) ≤ file_limit
-    → closed_due (closing_due (after_frames begun frames) closing) closing frames ≡ Writes closing frames
+    → closed_due (closing_due (after_frames header_alone frames) closing) closing frames ≡ Writes closing frames
 closing-taken closing frames short =
-    let size : ℕ = size_with (after_frames begun frames) closing in
+    let size : ℕ = size_with (after_frames header_alone frames) closing in
     ap (λ (long : Bool). closed_due (if long then Err error.OutputLimit
-    else Ok (record { frames = (after_frames begun frames).frames; bytes = size })) closing frames)
+    else Ok (record { frames = (after_frames header_alone frames).frames; bytes = size })) closing frames)
     (le-ltb file_limit size (subst (λ n. n ≤ file_limit) (file-size closing frames) short))
 
 -- A well-formed file is due to be copied whole, within the limit of files.
@@ -72,7 +72,7 @@ copies-done files name file c bytes due held has canonical short is =
         omega (
           arith,
           whole,
-          length-append (canonical_head ordered) (closing_part (after_frames begun ordered) c.closing),
+          length-append (canonical_head ordered) (closing_part (after_frames header_alone ordered) c.closing),
         )
 
     passes : course None [] ordered ≡ Passes ordered

@@ -22,7 +22,7 @@ use Rattle.canonical_file.specs.Ranges.{AreBytes}
 use Rattle.canonical_file.specs.Ordered.{IsInOrder}
 use Rattle.canonical_file.specs.Records.{Record, end_record, records_of, with_record}
 use Rattle.canonical_file.specs.Splices.{entries_used, clashes, clash_from, clash_of}
-use Rattle.canonical_file.specs.Written.{Written, begun, after_frame, after_frames, canonical_head}
+use Rattle.canonical_file.specs.Written.{Written, header_alone, after_frame, after_frames, canonical_head}
 use Rattle.canonical_file.proofs.Sizes.{head-size}
 use Rattle.canonical_laws.specs.Writable.{IsWritableFrame}
 use Rattle.canonical_laws.specs.Sources.{printed_entries}
@@ -107,7 +107,7 @@ record MayPass (dictionary : List Entry) (w : Written) (fs : List Frame) : Type 
   short : (after_frames w fs).size ≤ file_limit
 
 -- so all of them pass
-all-pass : (dictionary : List Entry) (w : Written) (stood fs : List Frame) → w ≡ after_frames begun stood
+all-pass : (dictionary : List Entry) (w : Written) (stood fs : List Frame) → w ≡ after_frames header_alone stood
     → MayPass dictionary w fs → course None stood fs ≡ Passes (stood ++ fs)
 all-pass dictionary w stood [] is may = ap Passes (sym (append-nil stood))
 all-pass dictionary w stood (f ∷ fs) is may =
@@ -115,8 +115,8 @@ all-pass dictionary w stood (f ∷ fs) is may =
     let taken : frame_due None w f ≡ Ok tt =
     frame-taken dictionary w f may.sound may.needed.held may.writable.0 (omega (arith, may.few))
     (omega (arith, here, may.short)) in
-    let next : after_frame w f ≡ after_frames begun (stood ++ f ∷ []) =
-    ap (λ (w : Written). after_frame w f) is ∙ sym (fold-append after_frame begun stood (f ∷ [])) in
+    let next : after_frame w f ≡ after_frames header_alone (stood ++ f ∷ []) =
+    ap (λ (w : Written). after_frame w f) is ∙ sym (fold-append after_frame header_alone stood (f ∷ [])) in
     ap (λ (due : Result Unit WriteError). course_by due stood (course None (stood ++ f ∷ []) fs))
     (subst (λ (w : Written). frame_due None w f ≡ Ok tt) is taken)
     ∙ all-pass dictionary (after_frame w f) (stood ++ f ∷ []) fs next (record {
@@ -134,7 +134,7 @@ all-pass dictionary w stood (f ∷ fs) is may =
 pub own-pass : (file : List ℕ) (ordered : List Frame) → AreBytes file → AreFirst file ordered
     → length (canonical_head ordered) ≤ file_limit → course None [] ordered ≡ Passes ordered
 own-pass file ordered bytes first short =
-    all-pass dictionary begun [] ordered refl (record {
+    all-pass dictionary header_alone [] ordered refl (record {
       sound = (source_entries file first.order first.items first.last bytes first.begins).dictionary;
       needed = none-needed dictionary;
       writable = orders-writable dictionary (frames_among first.order first.items) ordered

@@ -22,7 +22,7 @@ use Rattle.contents_table.specs.declared.layouts.ChannelLayouts.{ChannelLayouts}
 use Rattle.contents_table.specs.Layouts.{AreOf}
 use Rattle.canonical_file.specs.Ordered.{IsInOrder}
 use Rattle.canonical_file.specs.declared.closing.Closing.{Closing}
-use Rattle.canonical_file.specs.Written.{Written, begun, frame_part, after_frame, after_frames, canonical_head}
+use Rattle.canonical_file.specs.Written.{Written, header_alone, frame_part, after_frame, after_frames, canonical_head}
 use Rattle.canonical_writer.specs.declared.errors.WriteError.{WriteError}
 use Rattle.canonical_writer.specs.declared.errors.WriteError.TheVariants as write
 use Rattle.canonical_writer.specs.Parts.{AreMet, CanBeWritten, IsReady, frame_in_order}
@@ -184,10 +184,10 @@ puts-frame file frame r stood old middle now name inputs w v plans numbers resul
     head = canonical_head put.then_stand
 
     piece : List ℕ
-    piece = frame_part (after_frames begun put.then_stand) f
+    piece = frame_part (after_frames header_alone put.then_stand) f
 
     due : Result Unit WriteError
-    due = frame_due w.closing (after_frames begun put.then_stand) f
+    due = frame_due w.closing (after_frames header_alone put.then_stand) f
 
     stays : (bytes : List ℕ) → HasMade old now name inputs w.slot bytes → HasMade old now name inputs v.slot bytes
     stays bytes made = subst (λ slot. HasMade old now name inputs slot bytes) (sym answers.kept.0) made
@@ -207,8 +207,9 @@ puts-frame file frame r stood old middle now name inputs w v plans numbers resul
         → PutsFrame file r w.closing stood old now name inputs v answer
     by (Ok x) answer puts written none =
         let next = written of b.can ready in
-        let after : v.written ≡ after_frames begun (put.then_stand ++ f ∷ []) =
-        next.0 ∙ ap (λ (x : Written). after_frame x f) put.written.written ∙ sym (after-push begun put.then_stand f) in
+        let after : v.written ≡ after_frames header_alone (put.then_stand ++ f ∷ []) =
+        next.0 ∙ ap (λ (x : Written). after_frame x f) put.written.written
+        ∙ sym (after-push header_alone put.then_stand f) in
         record {
           frames = put.frames ++ frame ∷ [];
           ordered = put.ordered ++ f ∷ [];
@@ -242,7 +243,7 @@ puts-frame file frame r stood old middle now name inputs w v plans numbers resul
           count = part.0;
           first = inr first-more;
           passes = passes-more w.closing stood put.ordered put.then_stand f put.passes
-              (failed-due due (due-no_device w.closing (after_frames begun put.then_stand) f) answer);
+              (failed-due due (due-no_device w.closing (after_frames header_alone put.then_stand) f) answer);
           made = subst (λ bytes. HasMade old now name inputs v.slot (take part.0 bytes))
               (sym (head-push put.then_stand f)) (stays (take part.0 (head ++ piece)) part.2);
         }

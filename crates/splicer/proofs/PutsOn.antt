@@ -10,7 +10,7 @@ use Rattle.canonical_writer.specs.Writer.{Writer}
 use Rattle.item_reader.specs.declared.item.ReadError.{ReadError}
 use Rattle.item_reader.specs.Reader.{file_of}
 use Rattle.frame_reader.specs.Given.{Frames, HasGiven, GoesOn, Keeps}
-use Rattle.splicer.specs.Errors.{unread}
+use Rattle.splicer.specs.Errors.{error_of_read}
 use Rattle.splicer.specs.Made.{IsMade}
 use Rattle.splicer.specs.Put.{HasPut, IsEnded, Puts, PutsFrame, PutsNext}
 use Rattle.splicer.proofs.Making.{made-draws}
@@ -123,7 +123,7 @@ pub puts_on-unread : (first now : Outside) (before r new : Frames) (w v : Writer
     → (old : Outside) (name : List ℕ) (inputs : ℕ) (stood : List Frame) (file : List ℕ)
     → file_of first before.reader.position.slot ≡ Some file → length old.slots ≤ before.reader.position.slot
     → AreBytes file → HasPut file before w.closing stood old first name inputs w
-    → Puts file w.closing stood old now name inputs v (Err (unread error))
+    → Puts file w.closing stood old now name inputs v (Err (error_of_read error))
 unfolding PutsOn
 puts_on-unread first now before r new w v error on goes old name inputs stood file told past bytes put =
     puts-unread file r new w.closing stood old now name inputs v error

@@ -5,10 +5,10 @@ use Rattle.std.proofs.lemmas.List.{length-append}
 use Rattle.std.proofs.lemmas.Option.{same_Some}
 use Rattle.frame_head.specs.Header.{header_of}
 use Rattle.frame_outside.specs.Counts.{counted_by}
-use Rattle.frame_outside.specs.Shelf.{Outside, Reading, Told, reading_at, passed}
+use Rattle.frame_outside.specs.Shelf.{Outside, Reading, Told, reading_at, reading_past}
 use Rattle.frame_outside.specs.SlotReader.{Draws, DrawsAtMost}
 use Rattle.frame_outside.proofs.Slots.{reading_at-pass}
-use Rattle.structure_source.specs.Source.{Position, Stands, GoesOn as Passes, drawn}
+use Rattle.structure_source.specs.Source.{Position, Stands, GoesOn as Passes, bytes_drawn}
 use Rattle.file_grammar.specs.declared.fault.Fault.{Fault}
 use Rattle.file_grammar.specs.Item.{nothing_yet}
 use Rattle.file_grammar.specs.MayStand.{Begins}
@@ -29,7 +29,7 @@ use Rattle.frame_reader.specs.Gives.{Breaks, Gives}
 use Rattle.frame_reader.specs.Given.{Frames, HasGiven, GoesOn, HasLooked}
 use Rattle.splicer.specs.declared.errors.InputError.{InputError}
 use Rattle.splicer.specs.declared.errors.InputError.TheVariants as input
-use Rattle.splicer.specs.Errors.{unread}
+use Rattle.splicer.specs.Errors.{error_of_read}
 use Rattle.splicer.specs.Put.{HasPut, IsEnded, PutsNext}
 use Rattle.splicer.specs.Drawn.{Took, HasRead, HasReached, DrawsInput, DrawsToFault, ReachesIn}
 use Rattle.splicer.proofs.LaterLooks.{within-along, stand-rest}
@@ -43,11 +43,11 @@ took-more old now new n more all took is sum = omega (arith, took, is, sum)
 
 -- what a source has drawn is of its file
 drawn-within : (o : Outside) (p : Position) (file : List ℕ) → file_of o p.slot ≡ Some file → Stands o p
-    → drawn p ≤ length file
+    → bytes_drawn p ≤ length file
 drawn-within o p file told stands = by (reading_at o.slots p.slot) refl told
   where
     by : (found : Option Reading) → reading_at o.slots p.slot ≡ found
-        → option_map (λ reading. reading.opened) found ≡ Some file → drawn p ≤ length file
+        → option_map (λ reading. reading.opened) found ≡ Some file → bytes_drawn p ≤ length file
     by None is told = absurd cc
     by (Some reading) is told =
         let at = stands.place reading is in
@@ -59,17 +59,17 @@ pub read-begun : (first now : Outside) (r : Reader) (slot : ℕ) (file : List �
     → r.position.slot ≡ slot → Stands now r.position → HasRead file first now r
 read-begun first now r slot file told beginning draws same stands = by (reading_at first.slots slot) refl told
   where
-    within : drawn r.position ≤ length file
+    within : bytes_drawn r.position ≤ length file
     within = drawn-within now r.position file (ap (file_of now) same ∙ file_of-drawn first now slot draws ∙ told) stands
 
     by : (found : Option Reading) → reading_at first.slots slot ≡ found
         → option_map (λ reading. reading.opened) found ≡ Some file → HasRead file first now r
     by None is told = absurd cc
     by (Some reading) is told =
-        let now_is : reading_at now.slots r.position.slot ≡ Some (passed draws.drawn reading) =
+        let now_is : reading_at now.slots r.position.slot ≡ Some (reading_past draws.drawn reading) =
         ap (reading_at now.slots) same ∙ ap (λ slots. reading_at slots slot) draws.passes.slots
-        ∙ reading_at-pass first.slots slot draws.drawn ∙ ap (option_map (passed draws.drawn)) is in
-        let at = stands.place (passed draws.drawn reading) now_is in
+        ∙ reading_at-pass first.slots slot draws.drawn ∙ ap (option_map (reading_past draws.drawn)) is in
+        let at = stands.place (reading_past draws.drawn reading) now_is in
         let start = beginning reading is in
         record { took = omega (arith, draws.passes.taken, at.drawn_is, start); within = within }
 
@@ -90,7 +90,8 @@ unfolding ReadsOn
 reads_on-drawn start now middle before r new on passes stands same = λ first file told read.
     let so_far = on first file told read in
     record {
-      took = took-more first now middle (drawn r.position) passes.draws.drawn (drawn new.position) so_far.took
+      took = took-more first now middle (bytes_drawn r.position) passes.draws.drawn
+          (bytes_drawn new.position) so_far.took
           passes.draws.passes.taken passes.balance;
       within = drawn-within middle new.position file (same ∙ told) stands;
     }
@@ -134,7 +135,7 @@ to-fault file frames fault n looked (inr until) =
 pub draws-unbegun : (file : List ℕ) (closing : Option Closing) (stood : List Frame) (first now : Outside) (slot : ℕ)
     (error : ReadError) → file_of first slot ≡ Some file → DrawsAtMost first now slot 65576
     → ((fault : Fault) → error ≡ read.Fault fault → IsHeaderFault file fault)
-    → DrawsInput file closing stood first now (Err (unread error))
+    → DrawsInput file closing stood first now (Err (error_of_read error))
 draws-unbegun file closing stood first now slot error told most header = record {
   drawn = most.draws.drawn;
   took = omega (arith, most.draws.passes.taken);
@@ -150,7 +151,7 @@ draws-unbegun file closing stood first now slot error told most header = record 
         omega (arith, few, ap (λ (f : List ℕ). length f) (same_Some reading.opened file told))
 
     by : (error : ReadError) → ((fault : Fault) → error ≡ read.Fault fault → IsHeaderFault file fault)
-        → ReachesIn file closing stood most.draws.drawn (Err (unread error))
+        → ReachesIn file closing stood most.draws.drawn (Err (error_of_read error))
     by (read.Fault fault) header = inl (header fault refl, most.limit)
     by read.Device header = inl most.limit
     by read.NoMemory header = inl most.limit
@@ -160,19 +161,19 @@ pub draws-unread : (file : List ℕ) (r new : Frames) (closing : Option Closing)
     (old now first last : Outside) (name : List ℕ) (inputs : ℕ) (w : Writer) (error : ReadError)
     → HasPut file r closing stood old now name inputs w → HasRead file first last new.reader
     → ((frames : List Frame) → HasGiven file frames r → GoesOn file frames new (Err error))
-    → ((frames : List Frame) → HasGiven file frames r → HasLooked file frames (drawn new.reader.position))
-    → DrawsInput file closing stood first last (Err (unread error))
+    → ((frames : List Frame) → HasGiven file frames r → HasLooked file frames (bytes_drawn new.reader.position))
+    → DrawsInput file closing stood first last (Err (error_of_read error))
 draws-unread file r new closing stood old now first last name inputs w error put has goes ahead = record {
-  drawn = drawn new.reader.position;
+  drawn = bytes_drawn new.reader.position;
   took = has.took;
   within = has.within;
   reaches = by error (goes put.frames put.given);
 }
   where
-    looked : HasLooked file put.frames (drawn new.reader.position)
+    looked : HasLooked file put.frames (bytes_drawn new.reader.position)
     looked = ahead put.frames put.given
 
-    reached : HasReached file closing stood (drawn new.reader.position)
+    reached : HasReached file closing stood (bytes_drawn new.reader.position)
     reached = record {
       frames = put.frames;
       ordered = put.ordered;
@@ -183,8 +184,8 @@ draws-unread file r new closing stood old now first last name inputs w error put
     }
 
     by : (error : ReadError) → GoesOn file put.frames new (Err error)
-        → ReachesIn file closing stood (drawn new.reader.position) (Err (unread error))
-    by (read.Fault fault) gives = to-fault file put.frames fault (drawn new.reader.position) looked gives
+        → ReachesIn file closing stood (bytes_drawn new.reader.position) (Err (error_of_read error))
+    by (read.Fault fault) gives = to-fault file put.frames fault (bytes_drawn new.reader.position) looked gives
     by read.Device gives = inr reached
     by read.NoMemory gives = inr reached
 
@@ -192,7 +193,7 @@ draws-unread file r new closing stood old now first last name inputs w error put
 pub draws-all : (file : List ℕ) (r : Reader) (closing : Option Closing) (stood : List Frame) (first last : Outside)
     → HasRead file first last r → DrawsInput file closing stood first last (Ok tt)
 draws-all file r closing stood first last has =
-    record { drawn = drawn r.position; took = has.took; within = has.within; reaches = tt }
+    record { drawn = bytes_drawn r.position; took = has.took; within = has.within; reaches = tt }
 
 -- a frame was given that is not written
 pub draws-next : (file : List ℕ) (frame : Frame) (r : Frames) (closing : Option Closing) (stood : List Frame)
@@ -201,7 +202,7 @@ pub draws-next : (file : List ℕ) (frame : Frame) (r : Frames) (closing : Optio
     → Reads there r.reader → r.reader.error ≡ None → file_of there r.reader.position.slot ≡ Some file
     → DrawsInput file closing stood first last (Err (input.Write error))
 draws-next file frame r closing stood old now there first last name inputs w error put has reads none told = record {
-  drawn = drawn r.reader.position;
+  drawn = bytes_drawn r.reader.position;
   took = has.took;
   within = has.within;
   reaches = inr (record {

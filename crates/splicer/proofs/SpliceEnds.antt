@@ -10,7 +10,8 @@ use Rattle.frame_outside.specs.Shelf.{Outside, Files, Writes as WritesBytes, Wri
 use Rattle.file_grammar.specs.Structure.{file_limit}
 use Rattle.frame_content.specs.Frames.{Frame}
 use Rattle.canonical_file.specs.declared.closing.Closing.{Closing}
-use Rattle.canonical_file.specs.Written.{Written, begun, after_frames, closing_part, canonical_head, canonical_file}
+use Rattle.canonical_file.specs.Written.{Written, header_alone, after_frames, closing_part, canonical_head}
+use Rattle.canonical_file.specs.Written.{canonical_file}
 use Rattle.canonical_file.proofs.Sizes.{head-size}
 use Rattle.canonical_writer.specs.declared.errors.WriteError.{WriteError}
 use Rattle.canonical_writer.specs.declared.errors.WriteError.TheVariants as write
@@ -44,16 +45,16 @@ summary_of frames bytes = record { frames = frames; bytes = bytes }
 abbrev due_by : Bool → List Frame → Closing → Result Summary WriteError
 due_by past stood closing =
     cond past (Err write.OutputLimit)
-    (Ok (summary_of (after_frames begun stood).frames (size_with (after_frames begun stood) closing)))
+    (Ok (summary_of (after_frames header_alone stood).frames (size_with (after_frames header_alone stood) closing)))
 
 -- what is told of the whole file is its number of frames and of bytes
 summary-is : (stood : List Frame) (closing : Closing)
-    → summary_of (after_frames begun stood).frames (size_with (after_frames begun stood) closing)
+    → summary_of (after_frames header_alone stood).frames (size_with (after_frames header_alone stood) closing)
     ≡ summary_of (length stood) (length (canonical_file closing stood))
 summary-is stood closing =
-    let last : Written = after_frames begun stood in
+    let last : Written = after_frames header_alone stood in
     let part : List ℕ = closing_part last closing in
-    let frames : last.frames ≡ length stood = frames-counted begun stood ∙ zero-add (length stood) in
+    let frames : last.frames ≡ length stood = frames-counted header_alone stood ∙ zero-add (length stood) in
     let bytes : size_with last closing ≡ length (canonical_file closing stood) =
     sym (length-append (canonical_head stood) part ∙ ap (λ n. n + length part) (head-size stood)) in
     ap (λ n. summary_of n (size_with last closing)) frames ∙ ap (summary_of (length stood)) bytes
@@ -63,12 +64,12 @@ summary-is stood closing =
 -- the whole file is written
 closed-whole : (files : Files) (old now new : Outside) (to : List ℕ) (inputs slot : ℕ) (stood : List Frame)
     (closing : Closing) → old.files ≡ Some files → HasMade old now to inputs slot (canonical_head stood)
-    → WritesBytes now new slot (closing_part (after_frames begun stood) closing)
+    → WritesBytes now new slot (closing_part (after_frames header_alone stood) closing)
     → Ends files old new to (Writes closing stood) (answer_of (Writes closing stood))
 closed-whole files old now new to inputs slot stood closing told made writes =
     let all : HasMade old new to inputs slot (canonical_file closing stood) =
     made-writes old now new to inputs slot (canonical_head stood)
-    (closing_part (after_frames begun stood) closing) made writes in
+    (closing_part (after_frames header_alone stood) closing) made writes in
     record {
       answer = inl refl;
       leaves = files-made files old new to (canonical_file closing stood) inputs slot told all;
@@ -78,15 +79,15 @@ closed-whole files old now new to inputs slot stood closing told made writes =
 -- the shelf failed, where the whole file was due
 closed-part : (files : Files) (old now new : Outside) (to : List ℕ) (inputs slot : ℕ) (stood : List Frame)
     (closing : Closing) → old.files ≡ Some files → HasMade old now to inputs slot (canonical_head stood)
-    → WritesPart now new slot (closing_part (after_frames begun stood) closing)
+    → WritesPart now new slot (closing_part (after_frames header_alone stood) closing)
     → Ends files old new to (Writes closing stood) (Err splice.Device)
 closed-part files old now new to inputs slot stood closing told made writes =
     let head : List ℕ = canonical_head stood in
-    let part : List ℕ = closing_part (after_frames begun stood) closing in
+    let part : List ℕ = closing_part (after_frames header_alone stood) closing in
     let some = made-part old now new to inputs slot head part made writes in
     let count : ℕ = some.0 in
     let within : count ≤ length head + (length part - 1) = some.1 in
-    let more : 0 < length part = closing-some (after_frames begun stood) closing in
+    let more : 0 < length part = closing-some (after_frames header_alone stood) closing in
     ends-failed files old new to (Writes closing stood) splice.Device (inl refl)
     (inr (record {
       count = count;
@@ -112,7 +113,7 @@ EndsBy files old new to due result = Ends files old new to due (spliced_by resul
 
 abbrev PutsClosing : Outside → Outside → ℕ → List Frame → Closing → Result Summary WriteError → Type 0
 PutsClosing now new slot stood closing result =
-    WriterPuts now new slot (closing_part (after_frames begun stood) closing) result
+    WriterPuts now new slot (closing_part (after_frames header_alone stood) closing) result
 
 -- an answer that is the due one, or says that memory or the shelf failed
 closed-by : (past : Bool) (files : Files) (old now new : Outside) (to : List ℕ) (inputs slot : ℕ) (stood : List Frame)
@@ -166,7 +167,7 @@ pub spliced-ends : (files : Files) (names : List (List ℕ)) (old now new : Outs
 spliced-ends files names old now new to w result bytes spliced answer puts bytes_are due is =
     let closing : Closing = spliced.closing in
     let stood : List Frame = spliced.stood in
-    let last : Written = after_frames begun stood in
+    let last : Written = after_frames header_alone stood in
     let A : Option Closing → Type 0 = λ held.
     IfSome held (λ closing. IsShortClosing closing → IsWriterAnswer result (closing_due w.written closing)) in
     let B : Option Closing → Type 0 = λ held.

@@ -9,7 +9,7 @@ use Rattle.canonical_writer.specs.declared.errors.WriteError.TheVariants as writ
 use Rattle.splicer.specs.declared.errors.InputError.{InputError}
 use Rattle.splicer.specs.declared.errors.InputError.TheVariants as input
 use Rattle.splicer.specs.declared.errors.SpliceError.TheVariants as splice
-use Rattle.splicer.specs.Errors.{refused, unwritten, error_of}
+use Rattle.splicer.specs.Errors.{error_of_shelf, unwritten, error_of}
 use Rattle.splicer.specs.Made.{IsMade}
 use Rattle.splicer.specs.Spliced.{LeavesShelf}
 use Rattle.splicer.proofs.Making.{one-made, one-refused}
@@ -17,11 +17,11 @@ use Rattle.splicer.proofs.Splicing.{HasFailed}
 
 -- ---- the errors
 
-pub refused-failed : (error : ShelfError) → HasFailed (refused error)
+pub refused-failed : (error : ShelfError) → HasFailed (error_of_shelf error)
 refused-failed shelf.Failed = inl refl
 refused-failed shelf.NoMemory = inr refl
 
-refused-device : (error : ShelfError) → refused error ≡ splice.Device → error ≡ shelf.Failed
+refused-device : (error : ShelfError) → error_of_shelf error ≡ splice.Device → error ≡ shelf.Failed
 refused-device shelf.Failed is = refl
 refused-device shelf.NoMemory is = cc
 
@@ -67,11 +67,11 @@ leaves-input old middle new to inputs all number slot after error before made fe
 pub leaves-refused : (old middle new : Outside) (to name : List ℕ) (inputs all slot : ℕ) (error : ShelfError)
     → IsMade old middle to inputs slot → Refuses middle new name → inputs ≤ all
     → (◌≡◌ {A = Result ℕ ShelfError} (Err error) (Err shelf.Failed) → Rose middle.faults new.faults)
-    → LeavesShelf old new to all (Err (refused error))
+    → LeavesShelf old new to all (Err (error_of_shelf error))
 leaves-refused old middle new to name inputs all slot error made refuses few failed = record {
   shelf = one-refused old middle new to name inputs all slot made.bytes made.made refuses few;
   device = λ is.
-      let same : refused error ≡ splice.Device = cc in
+      let same : error_of_shelf error ≡ splice.Device = cc in
       rose-before old.faults middle.faults new.faults made.made.faults
       (failed (ap (λ e. Err e) (refused-device error same)));
 }

@@ -8,7 +8,7 @@ use Rattle.std.proofs.lemmas.Option.{IfSome_then, none-some}
 use Rattle.std.proofs.lemmas.Slice.Eq.{bytes_eq-Decides}
 use Rattle.dictionary.specs.declared.entries.Entry.{Entry}
 use Rattle.dictionary.specs.declared.entries.Element.{Element}
-use Rattle.frame_outside.specs.Counts.{counted}
+use Rattle.frame_outside.specs.Counts.{next_count}
 use Rattle.frame_outside.specs.Shelf.{Outside, Files, Told, Refuses, Opens, holding}
 use Rattle.frame_outside.specs.declared.traits.ShelfError.{ShelfError}
 use Rattle.frame_outside.specs.declared.traits.ShelfError.TheVariants as shelf
@@ -153,7 +153,7 @@ names-after names name others number names_are = sym (ap (drop 1) names_are) ∙
 -- the misses rise only where the name is not held, and that is due then
 missed-due : (held : Option (List ℕ)) (old middle new : Outside) (closing : Option Closing) (stood : List Frame)
     (number : ℕ) (next : Next) (due : Due) → IsDueOfHeld held closing stood number next due
-    → middle.misses ≡ old.misses → new.misses ≡ cond (is_none held) (counted middle.misses) middle.misses
+    → middle.misses ≡ old.misses → new.misses ≡ cond (is_none held) (next_count middle.misses) middle.misses
     → old.misses < new.misses → answer_of due ≡ Err splice.Device
 missed-due None old middle new closing stood number next due is same missed more = ap answer_of is
 missed-due (Some file) old middle new closing stood number next due is same missed more =
@@ -200,7 +200,7 @@ ends-refused files names old middle new to name others number w due error splice
     (missed-due (files name) old middle new (Some spliced.closing) stood number
     (λ closing stood due. IsDueFrom files closing stood (number + 1) others due) due now made.misses
     (refuses.missed (holding to head files) holds
-    ∙ ap (λ held. cond (is_none held) (counted middle.misses) middle.misses) (held-apart to name head files apart)))
+    ∙ ap (λ held. cond (is_none held) (next_count middle.misses) middle.misses) (held-apart to name head files apart)))
 
 -- ---- an input that is opened
 

@@ -11,7 +11,7 @@ use Rattle.file_grammar.specs.MayStand.{frames_limit}
 use Rattle.frame_content.specs.Frames.{Frame}
 use Rattle.canonical_file.specs.declared.closing.Closing.{Closing}
 use Rattle.canonical_file.specs.Splices.{clash_of, NoneClashes}
-use Rattle.canonical_file.specs.Written.{Written, begun, after_frame, after_frames}
+use Rattle.canonical_file.specs.Written.{Written, header_alone, after_frame, after_frames}
 use Rattle.canonical_writer.specs.declared.errors.WriteError.{WriteError}
 use Rattle.canonical_writer.specs.declared.errors.WriteError.TheVariants as error
 use Rattle.canonical_writer.specs.Writer.{clash_or_limit, frame_due}
@@ -22,8 +22,8 @@ use Rattle.splicer.proofs.Courses.{stood_of}
 
 -- frames that stand are within the limits
 pub record AreWithin (frames : List Frame) : Type 0 where
-  pub few : (after_frames begun frames).frames ≤ frames_limit
-  pub short : (after_frames begun frames).size ≤ file_limit
+  pub few : (after_frames header_alone frames).frames ≤ frames_limit
+  pub short : (after_frames header_alone frames).size ≤ file_limit
 
 -- a frame is taken after what stands
 record IsTaken (closing : Option Closing) (w : Written) (f : Frame) : Type 0 where
@@ -67,7 +67,7 @@ pub record AreTaken (closing : Option Closing) (stood fs then_stand : List Frame
   pub rest : List Frame
   pub stand : then_stand ≡ stood ++ more
   pub first : fs ≡ more ++ rest
-  pub free : NoneClashes closing (after_frames begun stood) more
+  pub free : NoneClashes closing (after_frames header_alone stood) more
   pub within : AreWithin then_stand
 
 -- frames may come of which none is taken
@@ -83,7 +83,7 @@ none-taken closing stood fs within = record {
 
 -- where a frame does not clash and more are taken after it, it and they are taken
 one-taken : (closing : Option Closing) (stood fs then_stand : List Frame) (f : Frame)
-    → clash_of closing (after_frames begun stood).entries f ≡ None
+    → clash_of closing (after_frames header_alone stood).entries f ≡ None
     → AreTaken closing (stood ++ f ∷ []) fs then_stand → AreTaken closing stood (f ∷ fs) then_stand
 one-taken closing stood fs then_stand f clear are =
     let Free : Written → Type 0 = λ w. NoneClashes closing w are.more in
@@ -92,7 +92,7 @@ one-taken closing stood fs then_stand f clear are =
       rest = are.rest;
       stand = are.stand ∙ append_assoc stood (f ∷ []) are.more;
       first = ap (λ fs. f ∷ fs) are.first;
-      free = (clear, subst Free (fold-append after_frame begun stood (f ∷ [])) are.free);
+      free = (clear, subst Free (fold-append after_frame header_alone stood (f ∷ [])) are.free);
       within = are.within;
     }
 
@@ -101,10 +101,10 @@ pub course-takes : (closing : Option Closing) (stood fs : List Frame) → AreWit
     → AreTaken closing stood fs (stood_of (course closing stood fs))
 course-takes closing stood [] within = none-taken closing stood [] within
 course-takes closing stood (f ∷ fs) within =
-    by (frame_due closing (after_frames begun stood) f) refl (course-takes closing (stood ++ f ∷ []) fs)
+    by (frame_due closing (after_frames header_alone stood) f) refl (course-takes closing (stood ++ f ∷ []) fs)
   where
     w : Written
-    w = after_frames begun stood
+    w = after_frames header_alone stood
 
     by : (due : Result Unit WriteError) → frame_due closing w f ≡ due
         → (AreWithin (stood ++ f ∷ [])
@@ -113,8 +113,8 @@ course-takes closing stood (f ∷ fs) within =
     by (Err error) is later = none-taken closing stood (f ∷ fs) within
     by (Ok x) is later =
         let taken = is-taken closing w f x is in
-        let next : after_frame w f ≡ after_frames begun (stood ++ f ∷ []) =
-        sym (fold-append after_frame begun stood (f ∷ [])) in
+        let next : after_frame w f ≡ after_frames header_alone (stood ++ f ∷ []) =
+        sym (fold-append after_frame header_alone stood (f ∷ [])) in
         one-taken closing stood fs (stood_of (course closing (stood ++ f ∷ []) fs)) f taken.free (later (record {
           few = subst (λ (w : Written). w.frames ≤ frames_limit) next (omega (arith, taken.few));
           short = subst (λ (w : Written). w.size ≤ file_limit) next taken.short;

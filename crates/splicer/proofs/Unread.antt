@@ -13,7 +13,7 @@ use Rattle.canonical_file.specs.Ordered.{IsInOrder}
 use Rattle.canonical_file.specs.Written.{canonical_head}
 use Rattle.canonical_writer.specs.Writer.{Writer}
 use Rattle.frame_reader.specs.Given.{Frames, HasGiven, GoesOn, AreFirst}
-use Rattle.splicer.specs.Errors.{unread}
+use Rattle.splicer.specs.Errors.{error_of_read}
 use Rattle.splicer.specs.Made.{HasMade}
 use Rattle.splicer.specs.Put.{HasPut, Puts, PutsPart, PutsUntilFault}
 
@@ -55,7 +55,7 @@ pub unbegun-unread : (file : List ℕ) (closing : Option Closing) (stood : List 
     (name : List ℕ) (inputs : ℕ) (w : Writer) (error : ReadError)
     → ((fault : Fault) → error ≡ read.Fault fault → IsHeaderFault file fault)
     → HasMade old now name inputs w.slot (canonical_head stood)
-    → Puts file closing stood old now name inputs w (Err (unread error))
+    → Puts file closing stood old now name inputs w (Err (error_of_read error))
 unbegun-unread file closing stood old now name inputs w (read.Fault fault) header made =
     puts-unbegun file closing stood old now name inputs w.slot fault (header fault refl) made
 unbegun-unread file closing stood old now name inputs w read.Device header made =
@@ -98,7 +98,7 @@ pub puts-unread : (file : List ℕ) (r new : Frames) (closing : Option Closing) 
     (name : List ℕ) (inputs : ℕ) (w : Writer) (error : ReadError)
     → ((frames : List Frame) → HasGiven file frames r → GoesOn file frames new (Err error))
     → HasPut file r closing stood old now name inputs w
-    → Puts file closing stood old now name inputs w (Err (unread error))
+    → Puts file closing stood old now name inputs w (Err (error_of_read error))
 puts-unread file r new closing stood old now name inputs w (read.Fault fault) goes put = record {
   frames = put.frames;
   ordered = put.ordered;

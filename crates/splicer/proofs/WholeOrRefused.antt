@@ -12,7 +12,7 @@ use Rattle.canonical_file.specs.declared.closing.Closing.{Closing}
 use Rattle.canonical_file.specs.Ranges.{AreBytes}
 use Rattle.canonical_file.specs.Ordered.{IsInOrder}
 use Rattle.canonical_file.specs.Splices.{as_used}
-use Rattle.canonical_file.specs.Written.{begun, after_frames, canonical_file}
+use Rattle.canonical_file.specs.Written.{header_alone, after_frames, canonical_file}
 use Rattle.canonical_laws.specs.Laws.{ReadsBack}
 use Rattle.canonical_laws.proofs.SplicedFrames.{no_part_of_a_spliced_file, spliced_back}
 use Rattle.canonical_writer.specs.declared.errors.WriteError.TheVariants as error
@@ -46,18 +46,18 @@ IsWholeOrNot (Stops error frames) = IsUnfinished frames
 
 -- at the end of all inputs a whole file is due, or, past the limit of files, a head of which no part is well-formed
 closed : (closing : Closing) (stood : List Frame) → AreOfFiles closing stood → AreWithin stood → (long : Bool)
-    → nat_lt file_limit (size_with (after_frames begun stood) closing) ≡ long
+    → nat_lt file_limit (size_with (after_frames header_alone stood) closing) ≡ long
     → IsWholeOrNot (closed_due (if long then Err error.OutputLimit
     else Ok (record {
-      frames = (after_frames begun stood).frames;
-      bytes = size_with (after_frames begun stood) closing;
+      frames = (after_frames header_alone stood).frames;
+      bytes = size_with (after_frames header_alone stood) closing;
     })) closing stood)
 closed closing stood are within true is = kept-unfinished (Some closing) stood are within
 closed closing stood are within false is = record {
   are = are;
   few = within-few stood within;
   short = subst (λ n. n ≤ file_limit) (sym (file-size closing stood))
-      (ltb-false file_limit (size_with (after_frames begun stood) closing) is);
+      (ltb-false file_limit (size_with (after_frames header_alone stood) closing) is);
 }
 
 -- so what is due at the end of all inputs is whole, or no part of it is
@@ -66,7 +66,7 @@ at-end : (closing : Option Closing) (stood : List Frame) (due : Due) → AreKept
 at-end None stood due kept within is = absurd is
 at-end (Some closing) stood due kept within is =
     subst IsWholeOrNot (sym is)
-    (closed closing stood kept within (nat_lt file_limit (size_with (after_frames begun stood) closing)) refl)
+    (closed closing stood kept within (nat_lt file_limit (size_with (after_frames header_alone stood) closing)) refl)
 
 -- what is due of the inputs after one is
 abbrev LaterAre : Next → Due → Type 0

@@ -11,7 +11,7 @@ use Rattle.file_grammar.specs.Item.{Item, Before}
 use Rattle.file_grammar.specs.MayStand.{Begins}
 use Rattle.file_grammar.specs.Fault.{IsHeaderFault, IsItemFault}
 use Rattle.frame_content.specs.Frames.{Frame}
-use Rattle.structure_source.specs.Source.{drawn}
+use Rattle.structure_source.specs.Source.{bytes_drawn}
 use Rattle.item_reader.specs.Looked.{look, IsWithinLook}
 use Rattle.item_reader.specs.Reader.{Reader}
 use Rattle.canonical_file.specs.declared.closing.Closing.{Closing}
@@ -131,5 +131,5 @@ pub record HasDrawn (files : Files) (names : List (List ℕ)) (old now : Outside
 
 -- A reader has read its slot, all of which was taken since.
 pub record HasRead (file : List ℕ) (first now : Outside) (r : Reader) : Type 0 where
-  pub took : Took first now (drawn r.position)
-  pub within : drawn r.position ≤ length file
+  pub took : Took first now (bytes_drawn r.position)
+  pub within : bytes_drawn r.position ≤ length file

@@ -7,7 +7,7 @@ use Rattle.frame_outside.specs.Shelf.{Files}
 use Rattle.frame_content.specs.Frames.{Frame}
 use Rattle.canonical_file.specs.declared.closing.Closing.{Closing}
 use Rattle.canonical_file.specs.Ordered.{IsInOrder}
-use Rattle.canonical_file.specs.Written.{begun, after_frames, canonical_head, canonical_file}
+use Rattle.canonical_file.specs.Written.{header_alone, after_frames, canonical_head, canonical_file}
 use Rattle.frame_reader.specs.Gives.{Ending, Closes, Breaks, Gives, HoldBytes}
 use Rattle.canonical_writer.specs.declared.errors.WriteError.{WriteError}
 use Rattle.canonical_writer.specs.declared.writer.Summary.{Summary}
@@ -32,7 +32,7 @@ course_by (Err error) stood next = Refuses error stood
 abbrev pub course : Option Closing → List Frame → List Frame → Course
 course closing stood [] = Passes stood
 course closing stood (f ∷ fs) =
-    course_by (frame_due closing (after_frames begun stood) f) stood (course closing (stood ++ f ∷ []) fs)
+    course_by (frame_due closing (after_frames header_alone stood) f) stood (course closing (stood ++ f ∷ []) fs)
 
 -- ---- what is due
 
@@ -54,7 +54,7 @@ closed_due (Err error) closing stood = Stops (unwritten 0 error) stood
 abbrev pub IsDueAtEnd : Option Closing → List Frame → Due → Type 0
 IsDueAtEnd None stood due = ⊥
 IsDueAtEnd (Some closing) stood due =
-    due ≡ closed_due (closing_due (after_frames begun stood) closing) closing stood
+    due ≡ closed_due (closing_due (after_frames header_alone stood) closing) closing stood
 
 -- what is due of the inputs after one, by the closing that is held and the frames that stand then
 abbrev pub Next : Type 1

@@ -12,10 +12,10 @@ use Rattle.splicer.specs.declared.errors.SpliceError.{SpliceError}
 use Rattle.splicer.specs.declared.errors.SpliceError.TheVariants as splice
 
 -- an input that cannot be read
-abbrev pub unread : ReadError → InputError
-unread (read.Fault fault) = input.Fault fault
-unread read.Device = input.Write write.Device
-unread read.NoMemory = input.Write write.NoMemory
+abbrev pub error_of_read : ReadError → InputError
+error_of_read (read.Fault fault) = input.Fault fault
+error_of_read read.Device = input.Write write.Device
+error_of_read read.NoMemory = input.Write write.NoMemory
 
 -- a frame of the input of a number that is not written
 abbrev pub unwritten : ℕ → WriteError → SpliceError
@@ -31,9 +31,9 @@ error_of file (input.Fault fault) = splice.Fault file fault
 error_of file (input.Write error) = unwritten file error
 
 -- a call of the shelf that was refused
-abbrev pub refused : ShelfError → SpliceError
-refused shelf.Failed = splice.Device
-refused shelf.NoMemory = splice.NoMemory
+abbrev pub error_of_shelf : ShelfError → SpliceError
+error_of_shelf shelf.Failed = splice.Device
+error_of_shelf shelf.NoMemory = splice.NoMemory
 
 -- the input that is named is one of so many
 abbrev pub IsOfInputs : ℕ → SpliceError → Type 0

@@ -1,6 +1,6 @@
 -- What a shelf is while one of its slots writes the file of a name.
 use Rattle.std.specs.Prelude.{◌≡◌, ℕ, ◌+◌, ◌≤◌, List, length, take, Some, ◌⊎◌}
-use Rattle.frame_outside.specs.Shelf.{Outside, Told, IsTarget, writing_at, released, holding}
+use Rattle.frame_outside.specs.Shelf.{Outside, Told, IsTarget, writing_at, without_slot, holding}
 use Rattle.std.specs.Option.{option_map}
 
 -- The file of the name was made after `old`, in this slot, and these bytes were written to it; so many inputs were
@@ -8,7 +8,7 @@ use Rattle.std.specs.Option.{option_map}
 pub record HasMade (old new : Outside) (name : List ℕ) (inputs slot : ℕ) (bytes : List ℕ) : Type 0 where
   pub faults : old.faults ≤ new.faults
   pub misses : new.misses ≡ old.misses
-  pub kept : take (length old.slots) new.slots ≡ released name old.slots
+  pub kept : take (length old.slots) new.slots ≡ without_slot name old.slots
   pub given : length new.slots ≡ length old.slots + inputs + 1
   pub fresh : length old.slots ≤ slot
   pub target : IsTarget new.slots slot
@@ -24,7 +24,7 @@ pub record IsMade (old new : Outside) (name : List ℕ) (inputs slot : ℕ) : Ty
 -- the slots that were given before: as they were, or none of them writes the file of the name any more
 abbrev pub KeepsSlots : Outside → Outside → List ℕ → Type 0
 KeepsSlots old new name = (take (length old.slots) new.slots ≡ old.slots)
-    ⊎ (take (length old.slots) new.slots ≡ released name old.slots)
+    ⊎ (take (length old.slots) new.slots ≡ without_slot name old.slots)
 
 -- the files: as they were, or that of the name holds other bytes
 abbrev pub KeepsFiles : Outside → Outside → List ℕ → Type 0

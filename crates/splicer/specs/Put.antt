@@ -8,7 +8,7 @@ use Rattle.canonical_file.specs.declared.closing.Closing.{Closing}
 use Rattle.canonical_file.specs.Ranges.{AreBytes}
 use Rattle.canonical_file.specs.Ordered.{IsInOrder}
 use Rattle.canonical_file.specs.Splices.{entries_used}
-use Rattle.canonical_file.specs.Written.{begun, after_frames, canonical_head}
+use Rattle.canonical_file.specs.Written.{header_alone, after_frames, canonical_head}
 use Rattle.canonical_laws.specs.Content.{HasContent}
 use Rattle.canonical_writer.specs.declared.errors.WriteError.{WriteError}
 use Rattle.canonical_writer.specs.declared.errors.WriteError.TheVariants as write
@@ -25,7 +25,7 @@ use Rattle.splicer.specs.Made.{HasMade}
 -- A writer has written these frames, and no others, to the file of a name.
 pub record HasWritten (old new : Outside) (name : List ℕ) (inputs : ℕ) (frames : List Frame) (w : Writer) : Type 0 where
   pub made : HasMade old new name inputs w.slot (canonical_head frames)
-  pub written : w.written ≡ after_frames begun frames
+  pub written : w.written ≡ after_frames header_alone frames
   pub error : w.error ≡ None
   pub agree : AreConsistent (entries_used w.written.entries w.closing)
 

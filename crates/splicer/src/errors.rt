@@ -82,9 +82,9 @@ impl From<WriteError> for InputError {
 
 impl From<ReadError> for InputError {
     ghost use Rattle.std.specs.Prelude.{◌≡◌};
-    ghost use Rattle.splicer.specs.Errors.{unread};
+    ghost use Rattle.splicer.specs.Errors.{error_of_read};
 
-    ghost from_gives = { λ error result. result ≡ unread error };
+    ghost from_gives = { λ error result. result ≡ error_of_read error };
 
     fn from(error: ReadError) -> InputError {
         match error {
@@ -108,9 +108,9 @@ impl From<WriteError> for SpliceError {
 
 impl From<ShelfError> for SpliceError {
     ghost use Rattle.std.specs.Prelude.{◌≡◌};
-    ghost use Rattle.splicer.specs.Errors.{refused};
+    ghost use Rattle.splicer.specs.Errors.{error_of_shelf};
 
-    ghost from_gives = { λ error result. result ≡ refused error };
+    ghost from_gives = { λ error result. result ≡ error_of_shelf error };
 
     fn from(error: ShelfError) -> SpliceError {
         match error {

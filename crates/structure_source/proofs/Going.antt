@@ -9,14 +9,14 @@ use Rattle.std.specs.Prelude.{true, false, Result, Ok, Err, is_ok, is_err}
 use Rattle.std.proofs.lemmas.List.{drop-drop, take-append-le, append_assoc, take_at}
 use Rattle.std.proofs.Math.Seq.{take-add}
 use borrow.Rule.Slice.PartMut.{put_mid, post_of}
-use Rattle.frame_outside.specs.Shelf.{Outside, Reading, Source, Told, IsSource, Passes, left_of, passed}
+use Rattle.frame_outside.specs.Shelf.{Outside, Reading, Source, Told, IsSource, Passes, left_of, reading_past}
 use Rattle.frame_outside.specs.Shelf.{reading_at}
 use Rattle.frame_outside.specs.Shelf.{Opens, beginning, beginning_of}
 use Rattle.frame_outside.specs.SlotReader.{Buffered, Advances}
 use Rattle.frame_outside.proofs.Slots.{reading_at-pass, reading_at-given, IsSource-opens}
 use Rattle.frame_outside.proofs.Reading.{passes_none, passes_more, gone_once, advances_given}
 use Rattle.link_graph.specs.Collected.{Collected, Becomes}
-use Rattle.structure_source.specs.Source.{Position, drawn, IsAt, Stands, GoesOn, IsBounded}
+use Rattle.structure_source.specs.Source.{Position, bytes_drawn, IsAt, Stands, GoesOn, IsBounded}
 use Rattle.structure_source.specs.Source.{PassesNext}
 use Rattle.structure_source.specs.Source.{Appends, Brings}
 
@@ -31,7 +31,7 @@ Some-same x y e = cc
 at-later : (before : Option Reading) (reading : Reading) (p q : Position) (more n : ℕ)
     → Told before (λ reading. IsAt reading p)
     → Told before (λ reading. more ≤ length reading.opened - reading.at)
-    → option_map (passed more) before ≡ Some reading
+    → option_map (reading_past more) before ≡ Some reading
     → length p.ahead + more ≡ n + length q.ahead → q.at ≡ p.at + n
     → option_map (λ reading. q.ahead ++ left_of reading) (Some reading)
     ≡ option_map (drop n) (option_map (λ reading. p.ahead ++ left_of reading) before)
@@ -39,7 +39,7 @@ at-later : (before : Option Reading) (reading : Reading) (p q : Position) (more 
 at-later None reading p q more n at within told balance moved rest = cc
 at-later (Some old) reading p q more n at within told balance moved rest =
     let was : IsAt old p = at old refl in
-    let is : passed more old ≡ reading = Some-same (passed more old) reading told in
+    let is : reading_past more old ≡ reading = Some-same (reading_past more old) reading told in
     let opened : reading.opened ≡ old.opened = ap (λ (r : Reading). r.opened) (sym is) in
     let place : reading.at ≡ old.at + more = ap (λ (r : Reading). r.at) (sym is) in
     let fits = within old refl in
@@ -71,7 +71,7 @@ stands-on old new before after n stands advances moved = record {
   source = (gone_once old new (buffered before) (buffered after) n stands.source advances).source;
   few = omega (arith, advances.bounded, stands.few);
   place = λ reading told.
-      let seen : option_map (passed advances.draws.drawn) (reading_at old.slots before.slot) ≡ Some reading =
+      let seen : option_map (reading_past advances.draws.drawn) (reading_at old.slots before.slot) ≡ Some reading =
       sym (reading_at-pass old.slots before.slot advances.draws.drawn)
       ∙ ap (λ slots. reading_at slots before.slot) (sym advances.draws.passes.slots)
       ∙ ap (reading_at new.slots) (sym advances.slot) ∙ told in
@@ -143,8 +143,8 @@ stands-passed outside p n stands within =
     refl
 
 opened-later : (before : Option Reading) (reading : Reading) (more : ℕ) → before ≡ Some reading
-    → option_map (passed more) before ≡ Some (passed more reading)
-opened-later before reading more told = ap (option_map (passed more)) told
+    → option_map (reading_past more) before ≡ Some (reading_past more reading)
+opened-later before reading more told = ap (option_map (reading_past more)) told
 
 -- what is told of the slot afterwards: the same bytes, from the place on
 pub at-now : (old new : Outside) (before after : Position) (reading : Reading) → GoesOn old new before after
@@ -152,7 +152,7 @@ pub at-now : (old new : Outside) (before after : Position) (reading : Reading) �
     → (next : Reading) × (reading_at new.slots after.slot ≡ Some next) × (next.opened ≡ reading.opened)
     × IsAt next after
 at-now old new before after reading goes stands told =
-    let next : Reading = passed goes.draws.drawn reading in
+    let next : Reading = reading_past goes.draws.drawn reading in
     let seen : reading_at new.slots after.slot ≡ Some next =
     ap (reading_at new.slots) goes.slot ∙ ap (λ slots. reading_at slots before.slot) goes.draws.passes.slots
     ∙ reading_at-pass old.slots before.slot goes.draws.drawn ∙ opened-later _ reading goes.draws.drawn told in
@@ -226,14 +226,14 @@ pub underway-passed : (first last : Outside) (start ready after : Position) (n l
     → Underway first last start ready n left → count ≤ length ready.ahead → count ≤ left
     → after ≡ after_passing count ready → Underway first last start after n (left - count)
 underway-passed first last start ready after n left count way within few is =
-    let passed : GoesOn first last start (after_passing count ready) =
+    let reading_past : GoesOn first last start (after_passing count ready) =
     goes-more first last last start ready (after_passing count ready) way.goes
     (goes-passed last ready count within) in
-    let same : drawn (after_passing count ready) ≡ drawn ready = omega
+    let same : bytes_drawn (after_passing count ready) ≡ bytes_drawn ready = omega
     (arith, length-drop count ready.ahead, within) in
     let made : Underway first last start (after_passing count ready) n (left - count) = record {
       within = omega (arith, way.within);
-      goes = passed;
+      goes = reading_past;
       stands = stands-passed last ready count way.stands within;
       moved = omega (arith, way.moved, few);
       bounded = record {
@@ -389,7 +389,7 @@ filled-more first last start ready reading filled count k xs ys goes stands move
 -- ---- calls that are refused
 
 same-come : (told : Option Reading) (ahead : List ℕ)
-    → option_map (λ reading. ahead ++ left_of reading) (option_map (passed 0) told)
+    → option_map (λ reading. ahead ++ left_of reading) (option_map (reading_past 0) told)
     ≡ option_map (drop 0) (option_map (λ reading. ahead ++ left_of reading) told)
 same-come None ahead = refl
 same-come (Some reading) ahead = ap (λ n. Some (ahead ++ drop n reading.opened)) (add-zero reading.at)

@@ -17,8 +17,8 @@ pub record Position : Type 0 where
   pub at : ℕ
 
 -- the bytes of the slot that were drawn
-abbrev pub drawn : Position → ℕ
-drawn p = p.at + length p.ahead
+abbrev pub bytes_drawn : Position → ℕ
+bytes_drawn p = p.at + length p.ahead
 
 -- the bytes from a place to the end of a file
 abbrev pub left_at : List ℕ → ℕ → ℕ
@@ -27,7 +27,7 @@ left_at file at = length file - at
 -- The slot has given what was drawn; the bytes ahead and those that it has left are the file's from the
 -- place on.
 pub record IsAt (reading : Reading) (p : Position) : Type 0 where
-  pub drawn_is : reading.at ≡ drawn p
+  pub drawn_is : reading.at ≡ bytes_drawn p
   pub within : reading.at ≤ length reading.opened
   pub rest : p.ahead ++ left_of reading ≡ drop p.at reading.opened
 
@@ -43,13 +43,13 @@ pub record GoesOn (old new : Outside) (before after : Position) : Type 0 where
   pub slot : after.slot ≡ before.slot
   pub forward : before.at ≤ after.at
   pub draws : Draws old new before.slot
-  pub balance : drawn before + draws.drawn ≡ drawn after
+  pub balance : bytes_drawn before + draws.drawn ≡ bytes_drawn after
 
 -- Reading ahead is bounded: nothing is drawn where the n bytes that are asked for are ahead, and else at
 -- most 65,535 bytes behind them.
 pub record IsBounded (before : Position) (n : ℕ) (after : Position) : Type 0 where
-  pub none : n ≤ length before.ahead → drawn after ≡ drawn before
-  pub few : drawn after ≤ max (drawn before) (before.at + n + 65535)
+  pub none : n ≤ length before.ahead → bytes_drawn after ≡ bytes_drawn before
+  pub few : bytes_drawn after ≤ max (bytes_drawn before) (before.at + n + 65535)
 
 -- what stands at a place, as far as 14 bytes tell it
 abbrev pub IsHead : Order → List ℕ → ℕ → Head → Type 0

@@ -12,7 +12,7 @@ use Rattle.std.specs.List.{flat_map}
 use Rattle.type_text.specs.declared.types.Dim.{Dim}
 use Rattle.type_text.specs.declared.types.Dim.TheVariants.{Numeral}
 use Rattle.type_text.specs.declared.types.ElementType.{ElementType}
-use Rattle.type_text.specs.TypeText.{printed, base_text, dim_text}
+use Rattle.type_text.specs.TypeText.{printed_type, base_text, dim_text}
 
 -- the length with the first dimensions alone
 abbrev pub length_with : ElementType → ℕ → ℕ
@@ -34,8 +34,8 @@ digits-few n fits = length-decimal-le 10 n (omega arith) (omega arith) (omega ar
 
 pub ruleset digits = (digits-more, digits-one, digits-few)
 
-pub length_with-all : (ty : ElementType) (i : ℕ) → length ty.dims ≤ i → length (printed ty) ≡ length_with ty i
-unfolding printed
+pub length_with-all : (ty : ElementType) (i : ℕ) → length ty.dims ≤ i → length (printed_type ty) ≡ length_with ty i
+unfolding printed_type
 length_with-all ty i all =
     length-append (base_text ty.base) (flat_map dim_text ty.dims)
     ∙ ap (λ ds. length (base_text ty.base) + length (flat_map dim_text ds)) (sym (take_all i ty.dims all))
@@ -47,10 +47,10 @@ length_with-more ty i d lt =
     (omega (arith, length-append (flat_map dim_text (take i ty.dims)) (dim_text (get_or ty.dims i d))))
 
 pub length_with-over : (ty : ElementType) (i : ℕ) → i < length ty.dims → 4096 < length_with ty i
-    → nat_le (length (printed ty)) 4096 ≡ false
+    → nat_le (length (printed_type ty)) 4096 ≡ false
 length_with-over ty i lt over =
     let before = length-flat_map-take dim_text ty.dims i (get_or ty.dims i (Numeral 0)) lt in
-    long (length (printed ty))
+    long (length (printed_type ty))
     (omega (
       arith,
       before,

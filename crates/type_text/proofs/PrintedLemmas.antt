@@ -19,7 +19,7 @@ use Rattle.type_text.specs.declared.types.Dim.{Dim}
 use Rattle.type_text.specs.declared.types.Dim.TheVariants.{Numeral, Named}
 use Rattle.type_text.specs.declared.types.ElementType.{ElementType}
 use Rattle.type_text.specs.Tokens.{Token, Word, Mark, tokens, extended, begins_word, is_blank, is_word_byte}
-use Rattle.type_text.specs.TypeText.{type_of, type_of_tokens, within_limit, printed, base_text, dim_text, base_of}
+use Rattle.type_text.specs.TypeText.{type_of, type_of_tokens, within_limit, printed_type, base_text, dim_text, base_of}
 use Rattle.type_text.specs.TypeText.{plain_bases, word_of, dims_of, dim_of, with_dim, pointed_of, base_in_front}
 use Rattle.type_text.specs.TypeText.{with_dims, numeral_of, is_name, IsType}
 use Rattle.type_text.proofs.FoundLemmas.{cond-some, cond-both, and_then-some, map-some, find-some}
@@ -238,8 +238,8 @@ dims_of-tokens (d ∷ ds) all = rw (dim_of-word d all.0, dims_of-tokens ds all.1
 
 -- the base in front of the printed text
 plain-front : (base : Base) (ds : List Dim) → IsPlain base → AllByRecursion IsDim ds
-    → base_in_front (tokens (printed (record { base = base; dims = ds }))) ≡ Some (base, dims_tokens ds)
-unfolding printed base_in_front
+    → base_in_front (tokens (printed_type (record { base = base; dims = ds }))) ≡ Some (base, dims_tokens ds)
+unfolding printed_type base_in_front
 plain-front base ds plain all =
     ap (λ text. base_in_front (tokens (text ++ flat_map dim_text ds))) plain.text
     ∙ ap base_in_front (tokens-word_append (word_of base) (flat_map dim_text ds)
@@ -248,9 +248,10 @@ plain-front base ds plain all =
     ∙ rw (plain.other, plain.found) refl
 
 tokens-pointer : (to : List ℕ) (ds : List Dim) → IsName to → AllByRecursion IsDim ds
-    → tokens (printed (record { base = Ptr to; dims = ds })) ≡ Word (codes "PTR_STRUCT") ∷ Mark 40 ∷ Word to ∷ Mark 42
+    → tokens (printed_type (record { base = Ptr to; dims = ds }))
+    ≡ Word (codes "PTR_STRUCT") ∷ Mark 40 ∷ Word to ∷ Mark 42
     ∷ Mark 41 ∷ dims_tokens ds
-unfolding printed tokens
+unfolding printed_type tokens
 tokens-pointer to ds name all =
     tokens-word_append (codes "PTR_STRUCT") (40 ∷ ((to ++ codes " *)") ++ flat_map dim_text ds)) (omega arith) refl refl
     ∙ ap (λ text. Word (codes "PTR_STRUCT") ∷ Mark 40 ∷ tokens text)
@@ -260,7 +261,7 @@ tokens-pointer to ds name all =
     ∙ ap (λ ts. Word (codes "PTR_STRUCT") ∷ Mark 40 ∷ Word to ∷ Mark 42 ∷ Mark 41 ∷ ts) (tokens-dims ds all)
 
 pointer-front : (to : List ℕ) (ds : List Dim) → IsName to → AllByRecursion IsDim ds
-    → base_in_front (tokens (printed (record { base = Ptr to; dims = ds }))) ≡ Some (Ptr to, dims_tokens ds)
+    → base_in_front (tokens (printed_type (record { base = Ptr to; dims = ds }))) ≡ Some (Ptr to, dims_tokens ds)
 unfolding base_in_front pointed_of
 pointer-front to ds name all = ap base_in_front (tokens-pointer to ds name all) ∙ rw name.0 refl
 
@@ -284,7 +285,7 @@ pointed_of-name (Mark l ∷ Word w ∷ Mark s ∷ Mark r ∷ ts) found all e =
 abbrev ReadsAgain : Base × List Token → Type 0
 ReadsAgain found =
     AreWords found.1 × ((ds : List Dim) → AllByRecursion IsDim ds
-    → base_in_front (tokens (printed (record { base = found.0; dims = ds }))) ≡ Some (found.0, dims_tokens ds))
+    → base_in_front (tokens (printed_type (record { base = found.0; dims = ds }))) ≡ Some (found.0, dims_tokens ds))
 
 base-again : (ts : List Token) (found : Base × List Token) → AreWords ts → base_in_front ts ≡ Some found
     → ReadsAgain found
@@ -304,33 +305,33 @@ base-again (Word w ∷ ts) found all e = by (bytes_eq w (codes "PTR_STRUCT")) e
         subst ReadsAgain base.2 (all.1, λ ds dims. plain-front base.0 ds (IsPlain-found w base.0 base.1) dims)
 
 tokens-read : (ts : List Token) (ty : ElementType) → AreWords ts → type_of_tokens ts ≡ Some ty
-    → type_of_tokens (tokens (printed ty)) ≡ Some ty
+    → type_of_tokens (tokens (printed_type ty)) ≡ Some ty
 unfolding type_of_tokens
 tokens-read ts ty all e =
     let found = and_then-some with_dims (base_in_front ts) ty e in
     let again = base-again ts found.0 all found.1 in
     let dims = map-some (λ dims. record { base = found.0.0; dims = dims }) (dims_of found.0.1) ty found.2 in
     let sound = dims-from_dims_of found.0.1 dims.0 again.0 dims.1 in
-    subst (λ ty. option_and_then with_dims (base_in_front (tokens (printed ty))) ≡ Some ty) dims.2
+    subst (λ ty. option_and_then with_dims (base_in_front (tokens (printed_type ty))) ≡ Some ty) dims.2
     (ap (option_and_then with_dims) (again.1 dims.0 sound)
     ∙ ap (option_map (λ dims. record { base = found.0.0; dims = dims })) (dims_of-tokens dims.0 sound))
 
 -- A printed text is a type, and reads as the type that it was printed from.
-pub printed-read : (ty : ElementType) → IsType ty → type_of (printed ty) ≡ Some ty
+pub printed-read : (ty : ElementType) → IsType ty → type_of (printed_type ty) ≡ Some ty
 unfolding type_of
 printed-read ty is =
     let text = is.0 in
     let read = (cond-both (nat_le (length text) 4096) (within_limit (type_of_tokens (tokens text))) ty is.1).1 in
-    let found = and_then-some (λ ty. cond (nat_le (length (printed ty)) 4096) (Some ty) None)
+    let found = and_then-some (λ ty. cond (nat_le (length (printed_type ty)) 4096) (Some ty) None)
     (type_of_tokens (tokens text)) ty read in
-    let fits = cond-some (nat_le (length (printed found.0)) 4096) found.0 ty found.2 in
-    let short : nat_le (length (printed ty)) 4096 ≡ true =
-    subst (λ ty. nat_le (length (printed ty)) 4096 ≡ true) fits.1 fits.0 in
+    let fits = cond-some (nat_le (length (printed_type found.0)) 4096) found.0 ty found.2 in
+    let short : nat_le (length (printed_type ty)) 4096 ≡ true =
+    subst (λ ty. nat_le (length (printed_type ty)) 4096 ≡ true) fits.1 fits.0 in
     let again = tokens-read (tokens text) ty (AreWords-tokens text) (found.1 ∙ ap Some fits.1) in
     rw (short, again, short) refl
 
 -- Types with equal printed texts are equal.
-pub same_from_printed : (a b : ElementType) → IsType a → IsType b → printed a ≡ printed b → a ≡ b
+pub same_from_printed : (a b : ElementType) → IsType a → IsType b → printed_type a ≡ printed_type b → a ≡ b
 same_from_printed a b left right same =
     same_Some a b (sym (printed-read a left) ∙ ap type_of same ∙ printed-read b right)
 

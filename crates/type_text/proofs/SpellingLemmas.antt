@@ -7,7 +7,7 @@ use Rattle.std.specs.List.{list_all}
 use Rattle.type_text.specs.declared.types.ElementType.{ElementType}
 use Rattle.type_text.specs.Tokens.{Token, Word, Mark, tokens, extended, begins_word, is_blank, is_word_byte, is_mark}
 use Rattle.type_text.specs.Tokens.{IsSpelling}
-use Rattle.type_text.specs.TypeText.{type_of, type_of_tokens, within_limit, printed, IsTypeText}
+use Rattle.type_text.specs.TypeText.{type_of, type_of_tokens, within_limit, printed_type, IsTypeText}
 use Rattle.type_text.proofs.TokenLemmas.{tokens-blank, tokens-mark, blank-word_byte}
 use Rattle.type_text.proofs.FoundLemmas.{cond-some, cond-both, and_then-some}
 use Rattle.type_text.proofs.PrintedLemmas.{tokens-word_append}
@@ -103,13 +103,13 @@ grammar-from : (text : List ℕ) (ty : ElementType) → type_of text ≡ Some ty
 unfolding type_of
 grammar-from text ty e =
     let read = cond-both (nat_le (length text) 4096) (within_limit (type_of_tokens (tokens text))) ty e in
-    let found = and_then-some (λ ty. cond (nat_le (length (printed ty)) 4096) (Some ty) None)
+    let found = and_then-some (λ ty. cond (nat_le (length (printed_type ty)) 4096) (Some ty) None)
     (type_of_tokens (tokens text)) ty read.1 in
-    let fits = cond-some (nat_le (length (printed found.0)) 4096) found.0 ty found.2 in
-    let short : nat_le (length (printed ty)) 4096 ≡ true =
-    subst (λ ty. nat_le (length (printed ty)) 4096 ≡ true) fits.1 fits.0 in (
+    let fits = cond-some (nat_le (length (printed_type found.0)) 4096) found.0 ty found.2 in
+    let short : nat_le (length (printed_type ty)) 4096 ≡ true =
+    subst (λ ty. nat_le (length (printed_type ty)) 4096 ≡ true) fits.1 fits.0 in (
       leb-true (length text) 4096 read.0,
-      leb-true (length (printed ty)) 4096 short,
+      leb-true (length (printed_type ty)) 4096 short,
       (tokens text, spelling-tokens text, found.1 ∙ ap Some fits.1),
     )
 
@@ -117,7 +117,7 @@ grammar-to : (text : List ℕ) (ty : ElementType) → IsTypeText text ty → typ
 unfolding type_of
 grammar-to text ty g =
     let same = tokens-spelled g.2.0 text g.2.1 in
-    rw (le-leb (length text) 4096 g.0, same, g.2.2, le-leb (length (printed ty)) 4096 g.1) refl
+    rw (le-leb (length text) 4096 g.0, same, g.2.2, le-leb (length (printed_type ty)) 4096 g.1) refl
 
 pub type_of-grammar : (text : List ℕ) (ty : ElementType) → (type_of text ≡ Some ty) ↔ IsTypeText text ty
 type_of-grammar text ty = (grammar-from text ty, grammar-to text ty)

@@ -100,12 +100,12 @@ base_text (Ptr to) = codes "PTR_STRUCT(" ++ to ++ codes " *)"
 base_text base = word_of base
 
 -- the printed text of a type
-unfoldable pub printed : ElementType → List ℕ
-printed ty = base_text ty.base ++ flat_map dim_text ty.dims
+unfoldable pub printed_type : ElementType → List ℕ
+printed_type ty = base_text ty.base ++ flat_map dim_text ty.dims
 
 -- the type, where its printed text has at most 4,096 bytes
 abbrev pub within_limit : Option ElementType → Option ElementType
-within_limit found = option_and_then (λ ty. if nat_le (length (printed ty)) 4096 then Some ty else None) found
+within_limit found = option_and_then (λ ty. if nat_le (length (printed_type ty)) 4096 then Some ty else None) found
 
 -- the type that a text of at most 4,096 bytes reads as
 unfoldable pub type_of : List ℕ → Option ElementType
@@ -114,7 +114,7 @@ type_of text = if nat_le (length text) 4096 then within_limit (type_of_tokens (t
 -- A text is this type where both it and the printed text have at most 4,096 bytes and it spells tokens of the type.
 abbrev pub IsTypeText : List ℕ → ElementType → Type 0
 IsTypeText text ty =
-    (length text ≤ 4096) × (length (printed ty) ≤ 4096)
+    (length text ≤ 4096) × (length (printed_type ty) ≤ 4096)
     × ((ts : List Token) × IsSpelling ts text × (type_of_tokens ts ≡ Some ty))
 
 -- some text reads as this type

@@ -1,7 +1,7 @@
 //! The length of a printed text, known before the text is made.
 ghost use Rattle.std.specs.Prelude.{◌≡◌, ◌+◌, ◌^◌, ◌≤◌, length, nat_le};
 ghost use Rattle.std.specs.Fmt.{decimal};
-ghost use Rattle.type_text.specs.TypeText.{printed, base_text, dim_text};
+ghost use Rattle.type_text.specs.TypeText.{printed_type, base_text, dim_text};
 
 use crate::base_words::base_word;
 use crate::{Base, Dim, ElementType};
@@ -15,11 +15,11 @@ const POINTER_MARKS: usize = 4;
 /// The bytes of a printed dimension beside its word: `[` and `]`.
 const BRACKETS: usize = 2;
 
-/// Whether the printed text of the type has at most as many bytes as a type may have. It can be longer than a text of the type by
-/// the blank before a star.
+/// Whether the printed text of the type has at most as many bytes as a type may have. It can be longer than a text of
+/// the type by the blank before a star.
 #[tactic(auto, using(crate::proofs::LengthLemmas::lengths))]
 pub fn printed_fits(ty: &ElementType) -> bool
-    ensures { result ≡ nat_le (length (printed ty.now)) 4096 }
+    ensures { result ≡ nat_le (length (printed_type ty.now)) 4096 }
 {
     let mut length = base_length(&ty.base);
     for dim in ty.dims.as_slice() {

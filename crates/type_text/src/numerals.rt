@@ -14,7 +14,8 @@ pub fn is_name(word: &[u8]) -> bool
     }
 }
 
-/// The number that a word of decimal digits writes. None where another byte stands in it, or where the number is above 4,294,967,295.
+/// The number that a word of decimal digits writes. None where another byte stands in it, or where the number is above
+/// 4,294,967,295.
 pub fn numeral(word: &[u8]) -> Option<u32>
     ensures { result ≡ numeral_of word.now }
 {
@@ -25,7 +26,8 @@ pub fn numeral(word: &[u8]) -> Option<u32>
     Some(number)
 }
 
-/// The number with one more digit at its end. None where the byte is no digit, or where the number would be above 4,294,967,295.
+/// The number with one more digit at its end. None where the byte is no digit, or where the number would be above
+/// 4,294,967,295.
 fn with_digit(number: u32, digit: u8) -> Option<u32>
     ensures { SomeIff result (IsAsciiDigit digit × (number * 10 + (digit - 48) < 2 ^ 32)) (number * 10 + (digit - 48)) }
 {

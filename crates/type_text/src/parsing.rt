@@ -13,7 +13,8 @@ use crate::scanning::{is_end, mark_at, word_at};
 use crate::{Base, Dim, DimList, ElementType, Name};
 use std::alloc::{AllocError, Global};
 
-/// The type that the text reads as. None exactly where the text is no type by the grammar, so a text has at most one type.
+/// The type that the text reads as. None exactly where the text is no type by the grammar, so a text has at most one
+/// type.
 pub fn parse_type(alloc: Global, text: &[u8]) -> Result<Option<ElementType>, AllocError>
     ensures exact { IfOk result (λ found. found ≡ type_of text.now) }
     ensures grammar { IfOk result (λ found. (ty : ElementType) → (found ≡ Some ty) ↔ IsTypeText text.now ty) }

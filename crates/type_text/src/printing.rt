@@ -1,6 +1,6 @@
 //! The printed text of a type.
 ghost use Rattle.std.specs.Prelude.{◌≡◌, ◌++◌, Some, IfOk, OnOk};
-ghost use Rattle.type_text.specs.TypeText.{IsType, type_of, printed, base_text, dim_text};
+ghost use Rattle.type_text.specs.TypeText.{IsType, type_of, printed_type, base_text, dim_text};
 
 use crate::base_words::base_word;
 use crate::{Base, Dim, ElementType, Name};
@@ -12,7 +12,7 @@ use std::alloc::{AllocError, Global};
 #[tactic(auto, using(crate::proofs::PrintedLemmas::reading))]
 pub fn print_type(alloc: Global, ty: &ElementType) -> Result<Name, AllocError>
     requires { IsType ty.now }
-    ensures printed { IfOk result (λ text. text ≡ printed ty.now) }
+    ensures printed_type { IfOk result (λ text. text ≡ printed_type ty.now) }
 
     // A printed text is a type, and reads as the type that it was printed from.
     ensures read_again { IfOk result (λ text. type_of text ≡ Some ty.now) }
@@ -20,9 +20,9 @@ pub fn print_type(alloc: Global, ty: &ElementType) -> Result<Name, AllocError>
     Ok(Name::from(printed_bytes(alloc, ty)?))
 }
 
-#[tactic(auto, unfolding(crate::specs::TypeText::printed))]
+#[tactic(auto, unfolding(crate::specs::TypeText::printed_type))]
 fn printed_bytes(alloc: Global, ty: &ElementType) -> Result<Vec<u8>, AllocError>
-    ensures { IfOk result (λ text. text.items ≡ printed ty.now) }
+    ensures { IfOk result (λ text. text.items ≡ printed_type ty.now) }
 {
     let mut text = Vec::new(alloc);
     push_base(&mut text, &ty.base)?;

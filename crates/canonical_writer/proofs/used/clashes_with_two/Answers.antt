@@ -16,7 +16,8 @@ returns-then-end-entry c =
 
 pub returns-then-is_named : goal.returns-then-is_named
 returns-then-is_named c =
-    c.if-is_named.true ∙ sym (clashes-two_names c.args.table.now c.args.end.now c.args.entry.now c.if-table-entry.false c.if-end-entry.false
+    c.if-is_named.true ∙ sym
+    (clashes-two_names c.args.table.now c.args.end.now c.args.entry.now c.if-table-entry.false c.if-end-entry.false
     ∙ ap (λ b. b || bytes_eq c.args.entry.now.name c.args.end.now.name) (sym c.is_named.ensures ∙ c.if-is_named.true))
 
 pub returns-else-is_named : goal.returns-else-is_named

@@ -102,7 +102,8 @@ returns-then-not-more-clause-finds g c = λ file other told also bytes too side 
     c.frames.comparer i.abreast i.reads c.in_ok-more.ensures.moves c.in_ok-more.ensures.keeps file other told also bytes
     too side beside in
     both-end file other q p c.frames.comparer
-    (both-at file other q p c.in_ok-more.more c.in_ok-more.also false c.frames.comparer on (equal c.in_ok-more.more c.in_ok-more.also c.if-more-also.false)
+    (both-at file other q p c.in_ok-more.more c.in_ok-more.also false c.frames.comparer on
+    (equal c.in_ok-more.more c.in_ok-more.also c.if-more-also.false)
     c.if-not-more.true)
 
 pub returns-then-not-branch-clause-finds : goal.returns-then-not-branch-clause-finds
@@ -125,7 +126,8 @@ returns-then-not-branch-clause-finds g c = λ file other told also bytes too sid
     one two in
     subst (λ n. FirstDiffer file other n q p) (sym place)
     (not-same file other q p c.frames.comparer
-    (both-at file other q p c.in_ok-more.more c.in_ok-more.also true c.frames.comparer on (equal c.in_ok-more.more c.in_ok-more.also c.if-more-also.false)
+    (both-at file other q p c.in_ok-more.more c.in_ok-more.also true c.frames.comparer on
+    (equal c.in_ok-more.more c.in_ok-more.also c.if-more-also.false)
     c.if-not-more.false)
     (subst (Judges file other q p c.frames.comparer) c.if-not-branch.true judges))
 
@@ -152,7 +154,8 @@ frames-preserved g c =
           let on = both-told first now r s c.frames.first c.frames.second q p c.in_ok-more.more c.in_ok-more.also
           c.frames.comparer i.abreast i.reads c.in_ok-more.ensures.moves c.in_ok-more.ensures.keeps file other told also bytes
           too side beside in
-          let both = both-at file other q p c.in_ok-more.more c.in_ok-more.also true met on (equal c.in_ok-more.more c.in_ok-more.also c.if-more-also.false)
+          let both = both-at file other q p c.in_ok-more.more c.in_ok-more.also true met on
+          (equal c.in_ok-more.more c.in_ok-more.also c.if-more-also.false)
           c.if-not-more.false in
           let judges : Judges file other q p met c.in_ok-are_same.field-0 =
           λ frames others frame another one two. c.in_ok-are_same.ensures.same file other frames others frame another bytes too

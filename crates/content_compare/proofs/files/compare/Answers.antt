@@ -101,7 +101,8 @@ returns-in_err-read_to_end-2-clause-device g c = λ told.
     let from = err_from_is_err_and c.from_residual-in_err-read_to_end-2.result
     c.from_residual-in_err-read_to_end-2.ensures.1 in
     rose-before _ _ _ ((read-back _ _ _ r.reader s.reader q.reader p.reader c.read_to_end.new.frames.reader
-    c.first_difference.ensures.reads c.read_to_end.ensures.draws c.read_to_end.ensures.reads c.requires.apart).draws 0 (omega arith) (omega arith)).faults
+    c.first_difference.ensures.reads c.read_to_end.ensures.draws c.read_to_end.ensures.reads c.requires.apart).draws 0
+    (omega arith) (omega arith)).faults
     (c.in_err-read_to_end-2.ensures.device (ap (λ e. Err e)
     (passed-on c.from_residual-in_err-read_to_end-2.result from.0 c.in_err-read_to_end-2.field-0.0 error.Device from.1
     from.2 told)))

@@ -2,7 +2,7 @@
 use Rattle.std.proofs.Common.{◌≡◌, ◌≤◌, [], Err, IfErr, refl, sym, ap, subst, ◌∙◌, arith}
 use Rattle.std.proofs.lemmas.Result.{err_from_is_err_and}
 use Rattle.content_compare.specs.declared.answers.CompareError.TheVariants as error
-use Rattle.content_compare.specs.Answers.{unread, IsOfTwo}
+use Rattle.content_compare.specs.Answers.{error_of_read, IsOfTwo}
 use Rattle.content_compare.specs.Due.{IsAnswer}
 use Rattle.content_compare.proofs.Draws.{draws-only, only-more, rose-before, file-stays}
 use Rattle.content_compare.proofs.Sides.{stops-before, passed-on}
@@ -15,7 +15,7 @@ use Rattle.content_compare.proofs.files.compare_slots.Goals as goal
 pub returns-in-Err-clause-compares : goal.returns-in-Err-clause-compares
 returns-in-Err-clause-compares g c = λ file second told also bytes too due is.
     subst (λ e. IsAnswer (Err e) due) (sym c.of_file.ensures)
-    (stops-due file second (unread 0 c.in-Err.error) due
+    (stops-due file second (error_of_read 0 c.in-Err.error) due
     (header-stops file second c.in-Err.error
     (λ fault same. c.begin.ensures.fault fault (c.in-Err.is ∙ ap (λ e. Err e) same) file told)) is)
 
@@ -140,7 +140,7 @@ returns-clause-compares g c = λ file second told also bytes too due is.
     let draws = c.begin.ensures.draws.draws in
     let begun = c.in-Ok.ensures.begun in
     subst (λ e. IsAnswer (Err e) due) (sym c.of_file-in-Err-begin.ensures)
-    (stops-due file second (unread 1 e) due
+    (stops-due file second (error_of_read 1 e) due
     (header-stops_second file second c.read_to_end.new.frames e
     (c.in_ok-read_to_end-in-Err-begin.ensures.ends file []
     (both-told one two three slot c.args.other slot r.reader.position.slot file draws

@@ -10,7 +10,8 @@ abbrev pub invariant-loop-at : goal.invariant-loop-at
 invariant-loop-at g l = record {
   within : l.at ≤ length l.bytes;
   printed : (items : List Value) → AreSingles l.order l.form items l.bytes
-      → PrintedSoFar (g.O.Sink.output l.fn.out) (g.O.Sink.output l.out) (pending l.fn.page) (pending l.page) l.base l.order l.form
+      → PrintedSoFar (g.O.Sink.output l.fn.out) (g.O.Sink.output l.out) (pending l.fn.page)
+      (pending l.page) l.base l.order l.form
       items l.at (drop l.at l.bytes);
 }
 

@@ -10,7 +10,8 @@ pub returns-clause-value : goal.returns-clause-value
 returns-clause-value c =
     let order = c.args.order in
     let common = c.args.common.now in
-    put_together (bytes_of order Eight common.length) (bytes_of order Four common.instance) c.args.into.now _ _ common.check common.class
+    put_together (bytes_of order Eight common.length)
+    (bytes_of order Four common.instance) c.args.into.now _ _ common.check common.class
     (bytes_of-length order Eight common.length) (bytes_of-length order Four common.instance) c.told-into
     c.write_num.ensures.value c.write_num.ensures.rest
     (c.write_num-2.ensures.value ∙ ap (bytes_of order Four) c.into.ensures) c.write_num-2.ensures.rest

@@ -1,7 +1,7 @@
 -- The reply that is due is that of the comparison that is due.
 use Rattle.std.proofs.Common.{rules, Err, inl, inr, refl, ap, ◌∙◌}
 use Rattle.frame_tool.specs.declared.outcome.Outcome.TheVariants.{Device}
-use Rattle.frame_tool.specs.Outcome.{compared}
+use Rattle.frame_tool.specs.Outcome.{comparison_outcome}
 use Rattle.frame_tool.proofs.Replies.{appends_nothing, prints_whole}
 use Rattle.frame_tool.proofs.Compares.{replies_compared}
 use Rattle.frame_tool.proofs.dispatch.run_same.Goals as goal
@@ -14,7 +14,7 @@ returns-in-Err-Device g c =
       misses = c.compare_files.ensures.misses;
       inputs = c.compare_files.ensures.files;
       shelf = c.compare_files.ensures.shelf;
-    }) (ap compared is) (inl refl) (prints_whole Device _ _ _ (appends_nothing _))
+    }) (ap comparison_outcome is) (inl refl) (prints_whole Device _ _ _ (appends_nothing _))
     (λ _. inl (c.compare_files.ensures.device is))
 
 pub returns-in_default : goal.returns-in_default

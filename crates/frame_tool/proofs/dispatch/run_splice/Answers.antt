@@ -4,7 +4,7 @@ use Rattle.std.proofs.lemmas.List.{length-map}
 use Rattle.std.specs.String.{string_bytes}
 use Rattle.frame_tool.specs.declared.outcome.Outcome.TheVariants.{Done, Device}
 use Rattle.frame_tool.specs.Words.{texts}
-use Rattle.frame_tool.specs.Outcome.{spliced}
+use Rattle.frame_tool.specs.Outcome.{splice_outcome}
 use Rattle.frame_tool.proofs.Replies.{appends_nothing, prints_whole}
 use Rattle.frame_tool.proofs.Splices.{replies_spliced, not_ok}
 use Rattle.frame_tool.proofs.dispatch.run_splice.Goals as goal
@@ -20,7 +20,7 @@ returns-in-Ok g c =
       taken = c.splice.ensures.taken;
       inputs = c.splice.ensures.inputs;
       shelf = c.splice.ensures.shelf;
-    }) (ap spliced c.in-Ok.is) (inl refl) (appends_nothing _) (λ _. refl) (λ no. absurd cc)
+    }) (ap splice_outcome c.in-Ok.is) (inl refl) (appends_nothing _) (λ _. refl) (λ no. absurd cc)
 
 pub returns-in-Err-Device : goal.returns-in-Err-Device
 returns-in-Err-Device g c =
@@ -34,7 +34,7 @@ returns-in-Err-Device g c =
       taken = c.splice.ensures.taken;
       inputs = c.splice.ensures.inputs;
       shelf = c.splice.ensures.shelf;
-    }) (ap spliced is) (inl refl) (prints_whole Device _ _ _ (appends_nothing _))
+    }) (ap splice_outcome is) (inl refl) (prints_whole Device _ _ _ (appends_nothing _))
     (λ ok. absurd (not_ok c.splice.result _ is ok)) (λ _. inl (c.splice.ensures.device is))
 
 pub returns-in-Err : goal.returns-in-Err
@@ -49,5 +49,5 @@ returns-in-Err g c =
       taken = c.splice.ensures.taken;
       inputs = c.splice.ensures.inputs;
       shelf = c.splice.ensures.shelf;
-    }) (ap spliced c.in-Err.is ∙ sym c.from.ensures) c.answer_line.ensures.answer c.answer_line.ensures.text
+    }) (ap splice_outcome c.in-Err.is ∙ sym c.from.ensures) c.answer_line.ensures.answer c.answer_line.ensures.text
     (λ ok. absurd (not_ok c.splice.result _ c.in-Err.is ok)) (λ failed. inr (c.answer_line.ensures.device failed))

@@ -13,7 +13,8 @@ invariant-structures g l = record {
   within : l.at ≤ file_limit;
   counted : 40 + 14 * l.structures ≤ l.at;
   gone : HasGone (g.S.Shelf.outside l.fn.shelf) (g.S.Shelf.outside l.shelf) l.fn.reader l.reader (l.at - 40);
-  stood : Told (to_come (g.S.Shelf.outside l.fn.shelf) l.fn.reader) (λ rest. Stood l.order rest (l.at - 40) l.structures);
+  stood : Told (to_come (g.S.Shelf.outside l.fn.shelf) l.fn.reader)
+      (λ rest. Stood l.order rest (l.at - 40) l.structures);
 }
 
 abbrev pub decreases-structures : goal.decreases-structures

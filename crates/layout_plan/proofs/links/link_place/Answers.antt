@@ -4,7 +4,8 @@ use Rattle.layout_plan.proofs.StepLemmas.{steps-all}
 use Rattle.layout_plan.proofs.links.link_place.Goals as goal
 
 pub link_place_in-requires-clause-room : goal.link_place_in-requires-clause-room
-link_place_in-requires-clause-room c = omega (arith, steps-all c.args.plan.now c.steps-count.result.now c.steps-count.ensures.steps)
+link_place_in-requires-clause-room c =
+    omega (arith, steps-all c.args.plan.now c.steps-count.result.now c.steps-count.ensures.steps)
 
 pub link_place_in-requires-then-count-le-FEW_FIELDS-clause-room : goal.link_place_in-requires-then-count-le-FEW_FIELDS-clause-room
 link_place_in-requires-then-count-le-FEW_FIELDS-clause-room c =
@@ -12,4 +13,8 @@ link_place_in-requires-then-count-le-FEW_FIELDS-clause-room c =
 
 pub link_place_in-requires-else-count-le-FEW_FIELDS-clause-room : goal.link_place_in-requires-else-count-le-FEW_FIELDS-clause-room
 link_place_in-requires-else-count-le-FEW_FIELDS-clause-room c =
-    omega (arith, mark_of-few c.args.plan.now (length c.args.plan.now) (omega arith), c.steps-count.ensures.layout.short)
+    omega (
+      arith,
+      mark_of-few c.args.plan.now (length c.args.plan.now) (omega arith),
+      c.steps-count.ensures.layout.short,
+    )

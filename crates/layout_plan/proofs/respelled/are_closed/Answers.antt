@@ -4,7 +4,8 @@ use Rattle.scalar_types.specs.declared.Order.TheVariants.{Little}
 use Rattle.scalar_types.specs.Number.{number}
 use Rattle.record_values.specs.Spelling.{IsText, IsClosedText}
 use Rattle.layout_plan.specs.Respelled.{Respells}
-use Rattle.layout_plan.proofs.RespelledLemmas.{respells-none, begins-text, text-begins, text-room, texts-same, texts-all}
+use Rattle.layout_plan.proofs.RespelledLemmas.{respells-none, begins-text, text-begins, text-room, texts-same}
+use Rattle.layout_plan.proofs.RespelledLemmas.{texts-all}
 use Rattle.layout_plan.proofs.respelled.are_closed.Goals as goal
 
 pub loop-at-init : goal.loop-at-init
@@ -39,5 +40,6 @@ pub returns : goal.returns
 returns c = λ holds.
     let bytes = c.args.bytes.now in
     let at = c.loop-at.at in
-    subst (Respells (IsText Little) (IsClosedText Little) bytes) (take_all at bytes (omega (arith, c.loop-at-test.false)))
+    subst (Respells (IsText Little) (IsClosedText Little) bytes)
+    (take_all at bytes (omega (arith, c.loop-at-test.false)))
     (texts-all Little bytes (take at bytes) at (omega (arith, c.loop-at-test.false)) c.loop-at.invariant.texts)

@@ -8,7 +8,8 @@ use Rattle.layout_plan.proofs.respelled.push_texts.Given as goal
 -- the texts so far
 abbrev pub invariant-loop-at : goal.invariant-loop-at
 invariant-loop-at l =
-    Appends (RespellsUpTo (IsText l.order) (IsClosedText Little) l.bytes (drop l.at l.bytes)) l.fn.into.items l.into.items
+    Appends (RespellsUpTo (IsText l.order) (IsClosedText Little) l.bytes
+    (drop l.at l.bytes)) l.fn.into.items l.into.items
 
 abbrev pub decreases-loop-at : goal.decreases-loop-at
 decreases-loop-at l = length l.bytes - l.at

@@ -4,7 +4,8 @@ use Rattle.layout_plan.proofs.StepLemmas.{steps-all}
 use Rattle.layout_plan.proofs.rewriting.push_body.Goals as goal
 
 pub push_fields-requires-clause-room : goal.push_fields-requires-clause-room
-push_fields-requires-clause-room c = omega (arith, steps-all c.args.plan.now c.steps-count.result.now c.steps-count.ensures.steps)
+push_fields-requires-clause-room c =
+    omega (arith, steps-all c.args.plan.now c.steps-count.result.now c.steps-count.ensures.steps)
 
 pub push_fields-requires-then-count-le-FEW_FIELDS-clause-room : goal.push_fields-requires-then-count-le-FEW_FIELDS-clause-room
 push_fields-requires-then-count-le-FEW_FIELDS-clause-room c =
@@ -12,4 +13,8 @@ push_fields-requires-then-count-le-FEW_FIELDS-clause-room c =
 
 pub push_fields-requires-else-count-le-FEW_FIELDS-clause-room : goal.push_fields-requires-else-count-le-FEW_FIELDS-clause-room
 push_fields-requires-else-count-le-FEW_FIELDS-clause-room c =
-    omega (arith, mark_of-few c.args.plan.now (length c.args.plan.now) (omega arith), c.steps-count.ensures.layout.short)
+    omega (
+      arith,
+      mark_of-few c.args.plan.now (length c.args.plan.now) (omega arith),
+      c.steps-count.ensures.layout.short,
+    )

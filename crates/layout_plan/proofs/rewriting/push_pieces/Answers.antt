@@ -20,7 +20,8 @@ loop-k-init c = record {
 pub place-end-requires-clause-room : goal.place-end-requires-clause-room
 place-end-requires-clause-room c =
     (ArePlaces-at Little c.args.plan.now c.args.body.now (length c.fields-fields.result.now) (c.loop-k.k + 1)
-    c.walk_body.new.ends c.mark.result 0 c.walk_body.ensures (omega (arith, c.loop-k-test.true)) c.mark.ensures.mark).room
+    c.walk_body.new.ends c.mark.result 0 c.walk_body.ensures
+    (omega (arith, c.loop-k-test.true)) c.mark.ensures.mark).room
 
 pub place-end-requires-clause-below : goal.place-end-requires-clause-below
 place-end-requires-clause-below c =

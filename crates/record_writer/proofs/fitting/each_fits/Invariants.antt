@@ -11,6 +11,7 @@ invariant-loop-field l =
     let fields = iter_rest (zip_first l.field-iterator) in
     let values = iter_rest (zip_second l.field-iterator) in
     record {
-      rest : AllZip (λ f v. FitsField (map number_of l.values) f.form f.counts v) fields values ↔ Fits l.fields l.values;
+      rest : AllZip (λ f v. FitsField
+          (map number_of l.values) f.form f.counts v) fields values ↔ Fits l.fields l.values;
       long : length fields ≡ length values;
     }

@@ -4,4 +4,5 @@ use Rattle.layout_plan.specs.Appends.{Appends}
 use Rattle.record_writer.proofs.spelling.push_texts.Given as goal
 
 abbrev pub invariant-loop-text : goal.invariant-loop-text
-invariant-loop-text l = Appends (AreItems (IsClosedText l.order) (take l.text-index l.texts)) l.initial.into.items l.into.items
+invariant-loop-text l = Appends
+    (AreItems (IsClosedText l.order) (take l.text-index l.texts)) l.initial.into.items l.into.items

@@ -1,7 +1,8 @@
 -- Each entry may be added behind those before it.
 use Rattle.std.proofs.Common.{[], ◌∷◌}
 use Rattle.sample_file.specs.Entries.{sample_entries, frame_header, raw_data, channel, vector, frame_end}
-use Rattle.sample_file.proofs.Learnt.{fresh-as, more-as, header-fresh, raw-fresh, channel-fresh, vector-fresh, end-fresh}
+use Rattle.sample_file.proofs.Learnt.{fresh-as, more-as, header-fresh, raw-fresh, channel-fresh, vector-fresh}
+use Rattle.sample_file.proofs.Learnt.{end-fresh}
 use Rattle.sample_file.proofs.Learnt.{vector-read}
 use Rattle.sample_file.proofs.entries.sample_dictionary.Goals as goal
 

@@ -3,7 +3,7 @@ use Rattle.std.proofs.Common.{◌≡◌, Err, sym, subst, ap, ◌∙◌}
 use Rattle.std.proofs.lemmas.Result.{err_from_is_err_and}
 use Rattle.canonical_writer.specs.Parts.{printed_closing}
 use Rattle.canonical_writer.specs.Writer.{Writer}
-use Rattle.splicer.specs.Errors.{unread}
+use Rattle.splicer.specs.Errors.{error_of_read}
 use Rattle.splicer.specs.Put.{Puts, PutsPart}
 use Rattle.splicer.proofs.Closed.{puts-further, puts-first, puts-no_closing, unread-fault}
 use Rattle.splicer.proofs.Unread.{puts-part}
@@ -18,7 +18,7 @@ pub returns-in_err-closing-clause-ended : goal.returns-in_err-closing-clause-end
 returns-in_err-closing-clause-ended c = λ file closing stood old now name inputs bytes ended first put.
     let p = err_from_is_err_and c.from_residual.result c.from_residual.ensures.1 in
     let error = c.in_err-closing.field-0.0 in
-    let is : c.from_residual.result ≡ Err (unread error) = p.1 ∙ ap (λ e. Err e) p.2 in
+    let is : c.from_residual.result ≡ Err (error_of_read error) = p.1 ∙ ap (λ e. Err e) p.2 in
     subst (λ result. Puts file closing stood old now name inputs c.args.writer.now result) (sym is)
     (puts-no_closing file c.args.frames.now closing stood old now name inputs c.args.writer.now error
     (λ fault is. c.closing.ensures.fault fault (c.in_err-closing.was ∙ ap (λ e. Err e) is) file ended.0 bytes ended.1)
@@ -28,7 +28,7 @@ pub returns-in_err-closing-clause-fault : goal.returns-in_err-closing-clause-fau
 returns-in_err-closing-clause-fault c = λ file fault is bytes ended.
     let p = err_from_is_err_and c.from_residual.result c.from_residual.ensures.1 in
     let error = c.in_err-closing.field-0.0 in
-    let was : c.from_residual.result ≡ Err (unread error) = p.1 ∙ ap (λ e. Err e) p.2 in
+    let was : c.from_residual.result ≡ Err (error_of_read error) = p.1 ∙ ap (λ e. Err e) p.2 in
     c.closing.ensures.fault fault
     (c.in_err-closing.was ∙ ap (λ e. Err e) (unread-fault error fault (sym was ∙ is))) file ended.0 bytes
     ended.1

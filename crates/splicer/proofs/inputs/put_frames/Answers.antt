@@ -8,7 +8,7 @@ use Rattle.item_reader.specs.Reader.{Reader, file_of}
 use Rattle.file_content.proofs.WholeFiles.{file_of-drawn}
 use Rattle.frame_reader.specs.Given.{GoesOn}
 use Rattle.splicer.specs.declared.errors.InputError.TheVariants as input
-use Rattle.splicer.specs.Errors.{unread}
+use Rattle.splicer.specs.Errors.{error_of_read}
 use Rattle.splicer.specs.Put.{PutsFrames}
 use Rattle.splicer.specs.Drawn.{DrawsInput}
 use Rattle.splicer.proofs.OnlyWritten.{target-drawn}
@@ -66,7 +66,7 @@ returns-in_err-next-clause-puts g c = λ old name inputs stood file told past by
     let error = c.in_err-next.field-0.0 in
     let draws = subst (λ slot. Draws now middle slot) i.slot c.next.ensures.draws.draws in
     let p = err_from_is_err_and c.from_residual.result c.from_residual.ensures.1 in
-    let is : c.from_residual.result ≡ Err (unread error) = p.1 ∙ ap (λ e. Err e) p.2 in
+    let is : c.from_residual.result ≡ Err (error_of_read error) = p.1 ∙ ap (λ e. Err e) p.2 in
     subst (λ result. PutsFrames file c.next.new.self w.closing stood old middle name inputs v result) (sym is)
     (puts_on-unread first middle before r c.next.new.self w v error
     (puts_on-drawn first now middle before r w v i.puts draws)
@@ -91,7 +91,7 @@ returns-in_err-next-clause-draws g c = λ old name inputs stood file told past b
     c.next.ensures.reads.stands
     (same-file first now middle before.reader r.reader new.reader c.next.ensures.draws i.slot i.file) in
     let p = err_from_is_err_and c.from_residual.result c.from_residual.ensures.1 in
-    let is : c.from_residual.result ≡ Err (unread error) = p.1 ∙ ap (λ e. Err e) p.2 in
+    let is : c.from_residual.result ≡ Err (error_of_read error) = p.1 ∙ ap (λ e. Err e) p.2 in
     subst (λ result. DrawsInput file w.closing stood start middle result) (sym is)
     (draws-unread file r new w.closing stood old now start middle name inputs v error
     (puts_on-put first now before r w v i.puts old name inputs stood file told past bytes put)

@@ -6,7 +6,7 @@ use Rattle.item_reader.specs.Reader.{file_of}
 use Rattle.file_content.proofs.WholeFiles.{file_of-drawn}
 use Rattle.canonical_writer.specs.Writer.{Writer}
 use Rattle.splicer.specs.declared.errors.InputError.{InputError}
-use Rattle.splicer.specs.Errors.{unread}
+use Rattle.splicer.specs.Errors.{error_of_read}
 use Rattle.splicer.specs.Made.{IsMade}
 use Rattle.splicer.specs.Put.{HasPut, Puts}
 use Rattle.splicer.specs.Drawn.{DrawsInput}
@@ -31,7 +31,7 @@ returns-in_err-frames-clause-puts g c = λ old name inputs stood file told past 
     let w = c.args.writer.now in
     let error = c.in_err-frames.field-0.0 in
     let p = err_from_is_err_and c.from_residual.result c.from_residual.ensures.1 in
-    let is : c.from_residual.result ≡ Err (unread error) = p.1 ∙ ap (λ e. Err e) p.2 in
+    let is : c.from_residual.result ≡ Err (error_of_read error) = p.1 ∙ ap (λ e. Err e) p.2 in
     subst (λ result. Puts file w.closing stood old now name inputs w result) (sym is)
     (unbegun-unread file w.closing stood old now name inputs w error
     (λ fault is. c.begin.ensures.fault fault (c.in_err-frames.was ∙ ap (λ e. Err e) is) file told)
@@ -45,7 +45,7 @@ returns-in_err-frames-clause-draws g c = λ old name inputs stood file told past
     let w = c.args.writer.now in
     let error = c.in_err-frames.field-0.0 in
     let p = err_from_is_err_and c.from_residual.result c.from_residual.ensures.1 in
-    let is : c.from_residual.result ≡ Err (unread error) = p.1 ∙ ap (λ e. Err e) p.2 in
+    let is : c.from_residual.result ≡ Err (error_of_read error) = p.1 ∙ ap (λ e. Err e) p.2 in
     subst (λ result. DrawsInput file w.closing stood first now result) (sym is)
     (draws-unbegun file w.closing stood first now c.args.slot error told c.begin.ensures.draws
     (λ fault is. c.begin.ensures.fault fault (c.in_err-frames.was ∙ ap (λ e. Err e) is) file told))

@@ -26,6 +26,7 @@ returns c =
           (made.0, w.table-is ∙ made.1))
           (w.number-is ∙ w.number_after-number.ensures) c.push_end.ensures
       | in_default w ↦ closing-without c.push_end.result so_far closing c.match-closing.number c.match-closing.table
-          c.match-closing.into.items c.push_end.new.into.items w.in_default.is (ap items_of w.into-is ∙ c.requires.empty)
+          c.match-closing.into.items c.push_end.new.into.items w.in_default.is
+          (ap items_of w.into-is ∙ c.requires.empty)
           (w.number-is ∙ c.count-number.ensures) w.table-is c.push_end.ensures
     ]

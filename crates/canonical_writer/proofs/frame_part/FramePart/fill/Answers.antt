@@ -32,14 +32,16 @@ returns-in_err-push_record-clause-clash c = λ class was is ready.
 pub loop-node-preserved : goal.loop-node-preserved
 loop-node-preserved c = λ is ready. elim c.if-node-len.branch [
   | then-node-len+in_ok-push_record w ↦
-      let source = c.args.frame.now in let count = c.loop-node.node-index in let closing = option_copied c.args.closing in
+      let source = c.args.frame.now in let count = c.loop-node.node-index in let closing =
+      option_copied c.args.closing in
       let filled = c.loop-node.invariant is ready in
       let placed = placed-at source count c.loop-node.self.links is c.loop-node-test.true filled.links_are in
       let more = filled-more c.args.at closing c.args.used.now c.loop-node.used w.push_record.new.used source count
       (get_or source.order.now count 0) c.loop-node.self w.push_record.new.self filled placed
       (w.in_ok-push_record.ensures.used count placed filled.used_are.ready)
       (w.in_ok-push_record.ensures.places count placed filled.used_are.ready) w.in_ok-push_record.ensures.links in
-      subst (λ (part : FramePart). IsFilledTo c.args.at closing c.args.used.now c.if-node-len.used source (count + 1) part)
+      subst (λ (part : FramePart). IsFilledTo c.args.at closing c.args.used.now c.if-node-len.used source
+      (count + 1) part)
       (sym w.self-is)
       (subst (λ (used : List Entry). IsFilledTo c.args.at closing c.args.used.now used source (count + 1)
       w.push_record.new.self) (sym w.used-is) more)

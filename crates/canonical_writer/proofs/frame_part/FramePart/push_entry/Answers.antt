@@ -45,7 +45,8 @@ returns-in_ok-push-clause-used c = λ sound e there short ready.
     let closing = option_copied c.args.closing in
     used-new closing used c.push.new.self c.args.dictionary.now c.args.class e c.args.self.now _ appends.items sound
     there ready appends.whole
-    (subst (λ (e : Entry). IsShortEntry e → appends.items ≡ new_entry used (printed_entry e)) same appends.related short)
+    (subst (λ (e : Entry). IsShortEntry e
+    → appends.items ≡ new_entry used (printed_entry e)) same appends.related short)
     refl
     (subst (λ (e : Entry). c.push.new.self ≡ with_entry used (printed_entry e)) same c.in_ok-push.ensures.used)
     (subst (λ (e : Entry). clashes (entries_used used closing) (printed_entry e) ≡ false) same

@@ -19,7 +19,8 @@ returns-in-Some-clause-no_clash c =
     let e = printed_entry c.args.entry.now in
     elim c.if-same_entry.branch [
       | then-same_entry w ↦ subst (λ r. OnOk r (clashes used e ≡ false)) (sym w.result-is)
-          (clashes-printed c.self.inside.entries c.args.self.now (closing_used c.args.closing) c.args.class c.args.entry.now c.in-Some.old.now c.self.view_is c.in-Some.ensures.entry c.requires.class
+          (clashes-printed c.self.inside.entries c.args.self.now
+          (closing_used c.args.closing) c.args.class c.args.entry.now c.in-Some.old.now c.self.view_is c.in-Some.ensures.entry c.requires.class
           c.requires.usable.read
           ∙ ap not (sym c.same_entry.ensures.tests ∙ w.if-same_entry.true))
       | else-same_entry w ↦ subst (λ r. OnOk r (clashes used e ≡ false)) (sym w.result-is) tt
@@ -32,7 +33,8 @@ returns-in-Some-clause-clash c =
       | then-same_entry w ↦ let h = sym w.result-is ∙ is in cc
       | else-same_entry w ↦ let h = sym w.result-is ∙ is in (
         cc,
-        λ agree. clashes-printed c.self.inside.entries c.args.self.now (closing_used c.args.closing) c.args.class c.args.entry.now c.in-Some.old.now c.self.view_is c.in-Some.ensures.entry c.requires.class
+        λ agree. clashes-printed c.self.inside.entries c.args.self.now
+            (closing_used c.args.closing) c.args.class c.args.entry.now c.in-Some.old.now c.self.view_is c.in-Some.ensures.entry c.requires.class
             c.requires.usable.read
             ∙ ap not (sym c.same_entry.ensures.tests ∙ w.if-same_entry.false),
       )
@@ -43,7 +45,8 @@ returns-then-clashes_with_closing-clause-clash c =
     λ other is. (
       cc,
       λ agree. clashes-closing c.args.self.now (closing_used c.args.closing) (printed_entry c.args.entry.now)
-          (none-stands c.self.inside.entries c.args.self.now c.args.class (printed_entry c.args.entry.now) c.self.view_is
+          (none-stands c.self.inside.entries c.args.self.now c.args.class
+          (printed_entry c.args.entry.now) c.self.view_is
           c.in_default.ensures.entry c.requires.class)
           (sym c.clashes_with_closing.ensures ∙ c.if-clashes_with_closing.true),
     )
@@ -61,7 +64,8 @@ returns-clause-clash c =
     let clash = c.push_new.ensures.clash other is in (
       clash.0,
       λ agree. clashes-named c.args.self.now (closing_used c.args.closing) (printed_entry c.args.entry.now)
-          (none-stands c.self.inside.entries c.args.self.now c.args.class (printed_entry c.args.entry.now) c.self.view_is
+          (none-stands c.self.inside.entries c.args.self.now c.args.class
+          (printed_entry c.args.entry.now) c.self.view_is
           c.in_default.ensures.entry c.requires.class)
           clash.1 (sym c.clashes_with_closing.ensures ∙ c.if-clashes_with_closing.false) agree,
     )

@@ -44,7 +44,9 @@ returns-clause-written g c = λ are is ready.
     let filled = c.in_ok-fill.ensures.filled is begun in
     let listed = c.in_ok-add_segment_at.ensures held are in (
       frame-written w closing c.fill.new.used source c.fill.new.self c.add_segment_at.new.self c.len.result is filled
-          (listed ∙ ap (λ places. with_frame_at places (segment_frame held source.segment.now) v.built) c.as_slice.ensures.value)
-          (omega (arith, c.len.ensures, c.fill.new.self.bytes.ok.0)) ∙ ap (λ (x : Writer). after_frame x.written (frame_of source)) c.self.view_is,
+          (listed ∙ ap (λ places. with_frame_at places
+          (segment_frame held source.segment.now) v.built) c.as_slice.ensures.value)
+          (omega (arith, c.len.ensures, c.fill.new.self.bytes.ok.0))
+          ∙ ap (λ (x : Writer). after_frame x.written (frame_of source)) c.self.view_is,
       subst (λ closing. IsReady c.fill.new.self.met closing c.fill.new.used held) c.as_ref.ensures.value filled.ready,
     )

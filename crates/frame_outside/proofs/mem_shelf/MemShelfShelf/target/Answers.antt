@@ -3,7 +3,7 @@ use Rattle.std.proofs.Common.{◌≡◌, map, length, option_map, sym, ap, ◌�
 use Rattle.std.proofs.lemmas.List.{length-map}
 use Rattle.std.specs.BTreeMap.{get_by_text}
 use Rattle.frame_outside.specs.MemSlot.{slot_of}
-use Rattle.frame_outside.specs.Shelf.{released}
+use Rattle.frame_outside.specs.Shelf.{without_slot}
 use Rattle.frame_outside.specs.Written.{AreApart}
 use Rattle.frame_outside.proofs.Kept.{given_slots}
 use Rattle.frame_outside.proofs.Written.{apart-made}
@@ -16,7 +16,7 @@ invariant_of-self-in-Ok c = record {
   apart = subst AreApart
       (sym (given_slots slot_of c.release.new.slots.items c.push_reserved.new.self.items _ _ _
       c.push_reserved.ensures.items
-      (c.release.ensures.slots ∙ ap (λ slots. released c.args.name.now (map slot_of slots))
+      (c.release.ensures.slots ∙ ap (λ slots. without_slot c.args.name.now (map slot_of slots))
       c.reserve.ensures.items)
       (made_slot _ _ c.args.name.now c.in-Ok-new.ensures.written c.in-Ok-new.ensures.name)))
       (apart-made c.args.name.now (map slot_of c.args.self.now.slots.items) c.args.self.now.apart);
@@ -31,6 +31,6 @@ returns-else-is_err-clause-ok c =
     (number ∙ sym (length-map _ slot_of))
     (given_slots slot_of c.release.new.slots.items c.push_reserved.new.self.items _ _ _
     c.push_reserved.ensures.items
-    (c.release.ensures.slots ∙ ap (λ slots. released c.args.name.now (map slot_of slots))
+    (c.release.ensures.slots ∙ ap (λ slots. without_slot c.args.name.now (map slot_of slots))
     c.reserve.ensures.items)
     (made_slot _ _ c.args.name.now c.in-Ok-new.ensures.written c.in-Ok-new.ensures.name))

@@ -2,7 +2,7 @@
 use Rattle.std.proofs.Common.{◌≡◌, ℕ, List, true, false, Some, Ok, Err, OnErr, refl, sym, ap, subst, ◌∙◌, arith}
 use Rattle.std.proofs.Common.{◌≤◌}
 use Rattle.std.proofs.lemmas.Result.{err_from_is_err_and}
-use Rattle.structure_source.specs.Source.{GoesOn as Passes, drawn}
+use Rattle.structure_source.specs.Source.{GoesOn as Passes, bytes_drawn}
 use Rattle.structure_source.proofs.Going.{goes-none}
 use Rattle.frame_content.specs.Frames.{Frame}
 use Rattle.item_reader.specs.declared.item.Item.TheVariants as item
@@ -53,8 +53,8 @@ returns-in_err-item-clause-ahead g c =
     subst (λ result. OnErr result ((file : List ℕ) (frames : List Frame)
     → file_of (o c.args.shelf.now) c.args.self.now.reader.position.slot ≡ Some file
     → c.args.self.now.reader.before.closed ≡ false → HasGiven file frames c.args.self.now
-    → HasLooked file frames (drawn c.next.new.self.position))) (sym p.1) (λ file frames told still given.
-    looked-on file frames r (drawn c.next.new.self.position)
+    → HasLooked file frames (bytes_drawn c.next.new.self.position))) (sym p.1) (λ file frames told still given.
+    looked-on file frames r (bytes_drawn c.next.new.self.position)
     (given_on-given (o c.args.shelf.now) c.args.self.now r file frames k.given told still given)
     (c.in_err-item.ensures.ahead k.error file (k.told file told)))
 

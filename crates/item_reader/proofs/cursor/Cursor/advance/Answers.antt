@@ -1,6 +1,6 @@
 -- The next item, or the fault that stands there.
 use Rattle.std.proofs.Common.{◌≡◌, ◌+◌, ◌≤◌, Some, refl, sym, ap, ◌∙◌, subst, arith}
-use Rattle.structure_source.specs.Source.{drawn}
+use Rattle.structure_source.specs.Source.{bytes_drawn}
 use Rattle.structure_source.proofs.Going.{goes-more}
 use Rattle.file_grammar.specs.Item.{Before}
 use Rattle.file_grammar.specs.Fault.{fault_here}
@@ -31,7 +31,7 @@ returns-in_err-common-clause-ahead g c =
     let opened : Cursor = record old { state = c.open_frame.new.self } in
     err-within c.from_residual.result (g.S.Shelf.outside c.args.shelf.now) old c.head.new.self.source
     (in-file-same (g.S.Shelf.outside c.args.shelf.now) old opened
-    (λ h. drawn c.head.new.self.source ≤ look h.order h.file h.before.place) refl c.open_frame.ensures.order
+    (λ h. bytes_drawn c.head.new.self.source ≤ look h.order h.file h.before.place) refl c.open_frame.ensures.order
     c.open_frame.ensures.before c.in_err-common.ensures.ahead)
 
 pub take-requires : goal.take-requires
@@ -87,7 +87,7 @@ returns-clause-ahead g c =
     let state_is = ap (λ (x : Cursor). x.state) c.in_ok-common.ensures.rest in
     on-err c.take.result _ _
     (in-file-before (g.S.Shelf.outside c.args.shelf.now) (g.S.Shelf.outside c.head.new.shelf) c.args.self.now
-    c.head.new.self (λ h. IsWithinLook h.order h.file h.before.place (drawn c.take.new.self.source))
+    c.head.new.self (λ h. IsWithinLook h.order h.file h.before.place (bytes_drawn c.take.new.self.source))
     c.in_ok-common.ensures.on c.in_ok-common.ensures.stands
     (ap (λ (s : State). s.segment.order) state_is ∙ c.open_frame.ensures.order)
     (ap before_of state_is ∙ c.open_frame.ensures.before)) c.take.ensures.ahead

@@ -1,6 +1,6 @@
 -- An entry: its FrSH, and its run.
 use Rattle.std.proofs.Common.{◌≡◌, ℕ, List, Some, None, refl, ap, ◌∙◌, subst}
-use Rattle.structure_source.specs.Source.{drawn}
+use Rattle.structure_source.specs.Source.{bytes_drawn}
 use Rattle.structure_source.proofs.Going.{goes-more}
 use Rattle.dictionary.specs.declared.entries.Entry.{Entry}
 use Rattle.file_grammar.specs.declared.kind.Kind.TheVariants.{FrSH}
@@ -47,7 +47,7 @@ returns-in_err-elements-clause-ahead g c =
     err-said c.from_residual-in_err-elements.result _
     (entry-ahead (g.S.Shelf.outside c.args.shelf.now) (g.S.Shelf.outside c.bring_own.new.shelf)
     c.args.self.now c.args.head c.bring_own.new.self.own.items c.bring_own.new.self.source c.in_ok-entry.entry
-    (drawn c.read_run.new.source) c.bring_own.new.self.state c.order-order.result
+    (bytes_drawn c.read_run.new.source) c.bring_own.new.self.state c.order-order.result
     (ap (λ (x : Cursor). x.state) c.in_ok-bring_own.ensures.rest) c.order-order.ensures
     c.in_ok-bring_own.ensures.on c.in_ok-bring_own.ensures.stands c.in_ok-bring_own.ensures.place
     c.in_ok-bring_own.ensures.body c.requires.kind c.in_ok-entry.ensures.begins c.read_run.ensures.bounded)
@@ -61,7 +61,7 @@ returns-in_err-self-clause-ahead g c =
     err-said c.from_residual-in_err-self.result _
     (entry-ahead (g.S.Shelf.outside c.args.shelf.now) (g.S.Shelf.outside c.bring_own.new.shelf)
     c.args.self.now c.args.head c.bring_own.new.self.own.items c.bring_own.new.self.source c.in_ok-entry.entry
-    (drawn c.read_run.new.source) c.bring_own.new.self.state c.order-order.result
+    (bytes_drawn c.read_run.new.source) c.bring_own.new.self.state c.order-order.result
     (ap (λ (x : Cursor). x.state) c.in_ok-bring_own.ensures.rest) c.order-order.ensures
     c.in_ok-bring_own.ensures.on c.in_ok-bring_own.ensures.stands c.in_ok-bring_own.ensures.place
     c.in_ok-bring_own.ensures.body c.requires.kind c.in_ok-entry.ensures.begins c.read_run.ensures.bounded)
@@ -123,7 +123,7 @@ returns-clause-ahead g c =
     err-said c.take_entry.result _
     (entry-ahead (g.S.Shelf.outside c.args.shelf.now) (g.S.Shelf.outside c.bring_own.new.shelf)
     c.args.self.now c.args.head c.bring_own.new.self.own.items c.bring_own.new.self.source c.in_ok-entry.entry
-    (drawn c.read_run.new.source) c.bring_own.new.self.state c.order-order.result
+    (bytes_drawn c.read_run.new.source) c.bring_own.new.self.state c.order-order.result
     (ap (λ (x : Cursor). x.state) c.in_ok-bring_own.ensures.rest) c.order-order.ensures
     c.in_ok-bring_own.ensures.on c.in_ok-bring_own.ensures.stands c.in_ok-bring_own.ensures.place
     c.in_ok-bring_own.ensures.body c.requires.kind c.in_ok-entry.ensures.begins c.read_run.ensures.bounded)

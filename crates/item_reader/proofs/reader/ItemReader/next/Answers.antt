@@ -1,6 +1,6 @@
 -- The next item or the first fault after what was read.
 use Rattle.std.proofs.Common.{◌≡◌, None, Some, ap, sym, subst, ◌∙◌}
-use Rattle.structure_source.specs.Source.{drawn}
+use Rattle.structure_source.specs.Source.{bytes_drawn}
 use Rattle.structure_source.proofs.Going.{goes-none}
 use Rattle.item_reader.specs.Looked.{IsWithinLook}
 use Rattle.item_reader.specs.Cursor.{InFile, GivesNext}
@@ -103,4 +103,4 @@ returns-in-Err-clause-ahead g c = λ none.
     c.in_default.is c.end_given.ensures c.in_default-end_given.is c.requires.reads in
     in-reader old s.cursor s.last s.error r
     (λ h. IsWithinLook h.order h.file h.before.place
-    (drawn c.advance.new.self.source)) going c.in-Err.ensures.ahead
+    (bytes_drawn c.advance.new.self.source)) going c.in-Err.ensures.ahead

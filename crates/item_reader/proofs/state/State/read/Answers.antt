@@ -1,6 +1,6 @@
 use Rattle.std.proofs.Common.{◌≡◌, true, Some, sym, ap, ◌∙◌}
 use Rattle.std.proofs.lemmas.Result.{IfOk-weaker, IfErr-weaker, on_ok_weaker}
-use Rattle.file_grammar.specs.Fault.{held, class, kind, fields, first_of}
+use Rattle.file_grammar.specs.Fault.{entries_before, class, kind, fields, first_of}
 use Rattle.file_grammar.specs.Record.{layout_in}
 use Rattle.item_reader.specs.State.{here_in}
 use Rattle.item_reader.specs.Judged.{InEachFile, IsRead, IsReadBy, is_read_kind, body_reasons}
@@ -22,7 +22,7 @@ returns-in-Some-clause-ok c =
     let h = here_in s file in
     let known : is_read_kind (kind h) ≡ true =
     ap is_read_kind (kind-here h p stands.placed) ∙ c.requires.kind in
-    let layout : layout_in (held h) (class h) ≡ Some plan =
+    let layout : layout_in (entries_before h) (class h) ≡ Some plan =
     ap (layout_in s.dictionary) (class-here h p stands.placed)
     ∙ sym (c.requires.sound.plans p.class)
     ∙ sym c.in-Some.ensures in
@@ -41,7 +41,7 @@ returns-in-Some-clause-fault c =
     let h = here_in s file in
     let known : is_read_kind (kind h) ≡ true =
     ap is_read_kind (kind-here h p stands.placed) ∙ c.requires.kind in
-    let layout : layout_in (held h) (class h) ≡ Some plan =
+    let layout : layout_in (entries_before h) (class h) ≡ Some plan =
     ap (layout_in s.dictionary) (class-here h p stands.placed)
     ∙ sym (c.requires.sound.plans p.class)
     ∙ sym c.in-Some.ensures in

@@ -2,7 +2,7 @@ use Rattle.std.proofs.Common.{◌≡◌, [], ◌∷◌, Some, sym, ap, ◌∙◌
 use Rattle.std.proofs.lemmas.Bool.{eq-eqb}
 use Rattle.file_grammar.specs.declared.kind.Kind.TheVariants.{FrSE}
 use Rattle.file_grammar.specs.declared.reason.Reason.TheVariants.{StrayElement}
-use Rattle.file_grammar.specs.Fault.{place, here, held, class, kind, fields, fields_by}
+use Rattle.file_grammar.specs.Fault.{place, here, entries_before, class, kind, fields, fields_by}
 use Rattle.file_grammar.specs.Record.{layout_in}
 use Rattle.file_grammar.proofs.Classes.{class-FrSE}
 use Rattle.file_grammar.proofs.Firsts.{first_of-holds}
@@ -19,10 +19,10 @@ returns-in-Ok c =
     let p = c.args.element in
     let h = here_in s file in
     let is : kind h ≡ FrSE = kind-here h p stands.placed ∙ c.requires.kind in
-    let plan : fields h ≡ Some s.built_in.element = ap (λ k. fields_by k (layout_in (held h) (class h))) is
+    let plan : fields h ≡ Some s.built_in.element = ap (λ k. fields_by k (layout_in (entries_before h) (class h))) is
     ∙ ap Some (sym c.requires.sound.built_in.element) in
     let read = c.in-Ok.ensures.ok file stands plan in
-    let two = eq-eqb (class h) 2 (class-FrSE (held h) (class h) is) in
+    let two = eq-eqb (class h) 2 (class-FrSE (entries_before h) (class h) is) in
     fault-kind h p c.requires.open stands.placed
     ∙ element-parts h is
     ∙ first_of-back body_reasons (StrayElement ∷ []) h read.none
@@ -36,7 +36,7 @@ returns-in-Err c =
     let p = c.args.element in
     let h = here_in s file in
     let is : kind h ≡ FrSE = kind-here h p stands.placed ∙ c.requires.kind in
-    let plan : fields h ≡ Some s.built_in.element = ap (λ k. fields_by k (layout_in (held h) (class h))) is
+    let plan : fields h ≡ Some s.built_in.element = ap (λ k. fields_by k (layout_in (entries_before h) (class h))) is
     ∙ ap Some (sym c.requires.sound.built_in.element) in
     fault-kind h p c.requires.open stands.placed
     ∙ element-parts h is

@@ -1,7 +1,7 @@
 use Rattle.std.proofs.Common.{◌≡◌, List, map, ap, sym, subst, ◌∙◌}
 use Rattle.link_graph.specs.declared.nodes.Kept.{Kept}
 use Rattle.link_graph.specs.Collected.{Collected, Bodied, without_stat}
-use Rattle.link_graph.specs.Kept.{bodied, collected, AreKept}
+use Rattle.link_graph.specs.Kept.{bodied, segment_view, AreKept}
 use Rattle.link_graph.proofs.Bodies.{kept-stat, bodied-stat}
 use Rattle.link_graph.proofs.segment.Segment.drop_stat_roots.Goals as goal
 
@@ -17,12 +17,12 @@ returns c =
     let nodes : map (bodied s.region) c.drop_stat_roots.new.self ≡ map without_stat
     (map (bodied s.region) s.records) = ap (map (bodied s.region)) c.drop_stat_roots.ensures
     ∙ bodied-stat s.region s.records in
-    let made : collected s.order s.region c.drop_stat_roots.new.self s.end s.pending ≡ record
-    (collected s.order s.region s.records s.end s.pending) {
+    let made : segment_view s.order s.region c.drop_stat_roots.new.self s.end s.pending ≡ record
+    (segment_view s.order s.region s.records s.end s.pending) {
       nodes =
           map without_stat (map (bodied s.region) s.records);
     } =
-    ap (λ (nodes : List Bodied). record (collected s.order s.region s.records s.end s.pending) {
+    ap (λ (nodes : List Bodied). record (segment_view s.order s.region s.records s.end s.pending) {
       nodes =
           nodes;
     }) nodes in

@@ -2,7 +2,7 @@ use Rattle.std.proofs.Common.{refl, sym, subst}
 use Rattle.layout_plan.specs.declared.fields.Form.TheVariants.{Text}
 use Rattle.layout_plan.specs.BuiltIn.{single}
 use Rattle.layout_plan.specs.Lent.{IsTextField}
-use Rattle.layout_plan.proofs.tests_of_built_in.element_is_read.Goals as goal
+use Rattle.layout_plan.proofs.tests.built_in.element_is_read.Goals as goal
 
 pub text_at-requires-clause-text : goal.text_at-requires-clause-text
 text_at-requires-clause-text g c =

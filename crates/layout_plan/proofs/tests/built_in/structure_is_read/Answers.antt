@@ -3,7 +3,7 @@ use Rattle.scalar_types.specs.declared.Width.TheVariants.{Two}
 use Rattle.layout_plan.specs.declared.fields.Form.TheVariants.{Number, Text}
 use Rattle.layout_plan.specs.BuiltIn.{single}
 use Rattle.layout_plan.specs.Lent.{IsNumberField, IsTextField}
-use Rattle.layout_plan.proofs.tests_of_built_in.structure_is_read.Goals as goal
+use Rattle.layout_plan.proofs.tests.built_in.structure_is_read.Goals as goal
 
 pub text_at-requires-clause-text : goal.text_at-requires-clause-text
 text_at-requires-clause-text g c =

@@ -1,9 +1,11 @@
-//! Runs of `check` over a shelf and a sink in memory: worked files with the text that each gives, for each reason that a file of
-//! this size can show and for neighbours in the table of reasons that hold at once; and calls that fail in turn.
+//! Runs of `check` over a shelf and a sink in memory: worked files with the text that each gives, for each reason that
+//! a file of this size can show and for neighbours in the table of reasons that hold at once; and calls that fail in
+//! turn.
 //!
-//! No file here shows FileLimit, FrameLimit or a weight beyond the limit, which need files of 4 GB and more, or FramesLimit, which
-//! needs 1,000,001 frames. Of two neighbours that are not here together, one is of another kind of structure than the other, or
-//! they are of lengths, classes or layouts that exclude each other, or one of them needs such a file.
+//! No file here shows FileLimit, FrameLimit or a weight beyond the limit, which need files of 4 GB and more, or
+//! FramesLimit, which needs 1,000,001 frames. Of two neighbours that are not here together, one is of another kind of
+//! structure than the other, or they are of lengths, classes or layouts that exclude each other, or one of them needs
+//! such a file.
 
 use crate::pieces::Piece::{Bare, Bytes, Full, Rest, Times};
 use crate::pieces::{Row, check_rows, range};

@@ -1,13 +1,13 @@
 //! Bodies written again, with their bytes spelled out by hand.
-use super::*;
-use crate::tests::plan;
+use super::compiled_plan;
+use crate::*;
 use scalar_types::Order;
 use std::alloc::{AllocError, Global};
 use std::test::Fail;
 use type_text::Link;
 
-/// The body of a structure of these elements written again after a byte, or None where the layout or the body does not read or has
-/// another number of links.
+/// The body of a structure of these elements written again after a byte, or None where the layout or the body does not
+/// read or has another number of links.
 fn rewritten(
     alloc: Global,
     elements: &[(&str, &str)],
@@ -15,7 +15,7 @@ fn rewritten(
     body: &[u8],
     links: &[Link],
 ) -> Result<Option<Vec<u8>>, AllocError> {
-    let Some(plan) = plan(alloc, elements)? else {
+    let Some(plan) = compiled_plan(alloc, elements)? else {
         return Ok(None);
     };
     if measure(&plan, order, body).is_err() {

@@ -256,8 +256,8 @@ const WITH_SER: &[Piece] = &[
     Bytes(b"\x07"),
 ];
 
-/// The entry of a table that lists the kind, and that table up to the positions of H1:A, H1:B and H1:C, and from there to
-/// the position of H1:S.
+/// The entry of a table that lists the kind, and that table up to the positions of H1:A, H1:B and H1:C, and from there
+/// to the position of H1:S.
 const SER_ENTRY: &[Piece] = &[
     Full(2693, 3274),
     Bytes(LISTS_SER),

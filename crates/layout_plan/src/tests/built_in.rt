@@ -4,7 +4,7 @@ ghost use Rattle.std.specs.Prelude.{◌≡◌, IfSome};
 ghost use Rattle.scalar_types.specs.declared.Order.TheVariants.{Little};
 ghost use Rattle.layout_plan.specs.Body.{HasBody};
 
-use super::*;
+use crate::*;
 use scalar_types::Order;
 use std::test::Fail;
 

@@ -1,7 +1,7 @@
 use Rattle.std.proofs.Common.{arith, ap, length, ◌∙◌}
 use Rattle.std.proofs.lemmas.List.{length-append}
 use Rattle.layout_plan.proofs.LinkLemmas.{listed-links}
-use Rattle.layout_plan.proofs.tests_of_rewriting.rewritten.Goals as goal
+use Rattle.layout_plan.proofs.tests.rewriting.rewritten.Goals as goal
 
 pub rewrite-requires-clause-links : goal.rewrite-requires-clause-links
 rewrite-requires-clause-links c =

@@ -2,8 +2,8 @@
 
 ghost use Rattle.std.specs.Prelude.{◌+◌, ◌≤◌, IfSome, length};
 
-use super::*;
-use crate::tests::{link, plan};
+use super::{compiled_plan, link};
+use crate::*;
 use scalar_types::Order;
 use std::test::Fail;
 use type_text::Link;
@@ -30,7 +30,7 @@ fn links_are_replaced_where_they_stand(rt: HostRuntime) -> Result<(), Fail> {
         ("n", "INT_1U"),
         ("v", "PTR_STRUCT(X *)[n]"),
     ];
-    let Some(plan) = plan(alloc, &elements)? else {
+    let Some(plan) = compiled_plan(alloc, &elements)? else {
         return Err("the layout does not read".into());
     };
     let body = [

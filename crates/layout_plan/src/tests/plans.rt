@@ -1,6 +1,6 @@
 //! Entries learnt in turn, and what their classes' plans then measure.
-use super::*;
-use crate::tests::entry;
+use super::entry;
+use crate::*;
 use scalar_types::Order;
 use std::alloc::{AllocError, Global};
 use std::test::Fail;

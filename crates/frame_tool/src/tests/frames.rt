@@ -119,8 +119,8 @@ fn judges_frames(rt: HostRuntime) -> Result<(), Fail> {
     Ok(())
 }
 
-/// An instance for each record before the end record of the file of one frame, and the places where its instance and the one
-/// link to it stand. FrameH has no link to it.
+/// An instance for each record before the end record of the file of one frame, and the places where its instance and
+/// the one link to it stand. FrameH has no link to it.
 const INSTANCES: [(u8, usize, usize); 9] = [
     (92, 579, 579),
     (93, 819, 614),

@@ -1,6 +1,6 @@
 //! Lists whose dimensions are numerals, and products of many dimensions.
-use super::*;
-use crate::tests::{fault, measured, ok};
+use super::{fault, measured, ok};
+use crate::*;
 use scalar_types::Order;
 use std::test::Fail;
 
