@@ -11,7 +11,7 @@ use Rattle.scalar_types.specs.declared.Width.{Width}
 use Rattle.type_text.specs.declared.types.Link.{Link as StructLink}
 use Rattle.record_values.specs.declared.values.Value.{Value}
 use Rattle.record_values.specs.declared.values.Value.TheVariants as value
-use Rattle.layout_plan.specs.declared.fields.Form.TheVariants.{Number, Text, Link}
+use Rattle.layout_plan.specs.declared.fields.Form.TheVariants.{Number, Text}
 use Rattle.layout_plan.specs.declared.fields.Count.{Count}
 use Rattle.layout_plan.specs.declared.fields.Count.TheVariants.{Fixed, Of, OfSigned}
 use Rattle.layout_plan.specs.declared.fields.Field.{Field}

@@ -3,13 +3,16 @@ pub mod BodyLemmas
 pub mod LayoutLemmas
 pub mod SpelledLemmas
 pub mod WalkLemmas
+pub mod WholeLemmas
 pub mod Examples
 pub mod LentLemmas
 pub mod AppendLemmas
+pub mod MadeLemmas
 pub mod LinkLemmas
 pub mod PlainLinkLemmas
 pub mod PassLemmas
 pub mod ReplaceLemmas
+pub mod UnlinkedLemmas
 pub mod FaultLemmas
 pub mod LengthLemmas
 pub mod MarkLemmas
@@ -22,3 +25,4 @@ pub mod RewriteLemmas
 pub mod PieceLemmas
 pub mod StepLemmas
 pub mod FixedLemmas
+pub mod PlanLemmas

@@ -10,6 +10,7 @@ use Rattle.std.proofs.lemmas.List.{drop_at, take-append-drop, take-take, take_al
 use Rattle.std.proofs.lemmas.List.Concat.{get_or-flat_map}
 use Rattle.std.proofs.lemmas.List.Folds.{length-flat_map-take}
 use Rattle.std.proofs.lemmas.Grind.{flat_map-append}
+use Rattle.std.proofs.lemmas.Slice.Zip.{AllZip-map}
 use Rattle.std.proofs.lemmas.Option.{same_Some, slice_get-map, slice_get_read, slice_get_within}
 use Rattle.scalar_types.specs.declared.Order.{Order}
 use Rattle.scalar_types.specs.declared.Width.TheVariants.{One, Two, Four, Eight}
@@ -30,8 +31,9 @@ use Rattle.layout_plan.specs.declared.links.LinkPlace.{LinkPlace}
 use Rattle.layout_plan.specs.Body.{number_of, IsSingle, IsListed, IsField, AreFields, IsBody, HasBody}
 use Rattle.layout_plan.specs.Reading.{Found, and_then, found_map, number_in, link_in}
 use Rattle.layout_plan.specs.Lent.{IsPlaced}
-use Rattle.layout_plan.specs.Links.{links_with, field_links, HasLink, HasLinks, AreLinks, IsLinkPlaced, HasLinkAt}
-use Rattle.layout_plan.specs.Links.{is_link_form, is_link}
+use Rattle.layout_plan.specs.Links.{links_with, field_links, HasLink, HasLinks, AreLinks, AreBodyLinks, IsLinkPlaced}
+use Rattle.layout_plan.specs.Links.{HasLinkAt, is_link_form, is_link}
+use Rattle.layout_plan.specs.Made.{IsMadeOf}
 use Rattle.layout_plan.specs.Marks.{numbers_where}
 use Rattle.layout_plan.specs.Walking.{ArePlaces, AreLinkPlaces}
 use Rattle.layout_plan.proofs.ReachLemmas.{ArePlaces-fewer}
@@ -199,6 +201,15 @@ pub listed-links : (order : Order) (fields : List Field) (bytes : List ℕ) (lin
     → AreLinks order fields bytes links → length links ≡ n → HasLinks order fields bytes n
 listed-links order fields bytes links n are many values tail body =
     sym many ∙ ap length (are values tail body) ∙ field_links-length values
+
+-- the links without their fields are the body's links
+pub plain-list : (order : Order) (fields : List Field) (bytes : List ℕ) (links : List StructLink)
+    → IsMadeOf (λ (found : FieldLink) link. link ≡ found.link) (AreLinks order fields bytes) links
+    → AreBodyLinks order fields bytes links
+plain-list order fields bytes links made values tail body =
+    AllZip-map (λ (found : FieldLink). found.link) made.items links made.each
+    ∙ ap (map (λ (found : FieldLink). found.link)) (made.related values tail body)
+    ∙ field_links-links 0 values
 
 -- as many links as there is room for
 links-room : (order : Order) (numbers : List ℕ) (fields : List Field) (values : List Value) (bytes : List ℕ)
@@ -484,6 +495,11 @@ pub link-place : (order : Order) (fields : List Field) (body : List ℕ) (items 
 link-place order fields body items j ends are lt places =
     subst (λ ns. ArePlaces order fields body (get_or ns j 0 + 1) ends) (sym are)
     (places j (omega (arith, ap length are)))
+
+pub link-places-whole : (order : Order) (fields : List Field) (body : List ℕ) (ends : List ℕ)
+    → ArePlaces order fields body (length fields) ends → AreLinkPlaces order fields body ends
+link-places-whole order fields body ends places j lt =
+    link-places order fields body (numbers_where is_link 0 fields) j (length fields) ends refl lt refl places
 
 -- what is placed by them
 pub link-list : (order : Order) (fields : List Field) (body : List ℕ) (items : List ℕ) (j : ℕ) (p : Placed)

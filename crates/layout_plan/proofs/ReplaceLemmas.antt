@@ -138,7 +138,7 @@ field-gap order numbers (Pair width) counts v bytes n passes s lt = cc
 field-gap order numbers Text counts v bytes n passes s lt = cc
 
 -- one spelling of a value stands at the front of bytes
-field-front : (order : Order) (numbers : List ℕ) (f : Field) (v : Value) (front other rest more : List ℕ)
+pub field-front : (order : Order) (numbers : List ℕ) (f : Field) (v : Value) (front other rest more : List ℕ)
     → IsField order numbers f.form f.counts v front → IsField order numbers f.form f.counts v other
     → front ++ rest ≡ other ++ more → (length front ≡ length other) × (rest ≡ more)
 field-front order numbers f v front other rest more here there same =
@@ -201,7 +201,7 @@ fields-gap order numbers (g ∷ gs) (w ∷ ws) bytes tail first more (suc i) n f
         ∙ ap (λ bytes. bytes ++ more) split' ∙ append_assoc front' rest' more)
 
 -- a link of a body
-body-replaced : (order : Order) (fields : List Field) (bytes tail : List ℕ) (values : List Value) (i n k start : ℕ)
+pub body-replaced : (order : Order) (fields : List Field) (bytes tail : List ℕ) (values : List Value) (i n k start : ℕ)
     (f : Field) (v : Value) → (body : IsBody order fields values tail bytes)
     → AreFields order (map number_of values) (take i fields) (take i values) (take start bytes) → start ≤ length bytes
     → slice_get fields i ≡ Some f → is_link f ≡ true → slice_get values i ≡ Some v → n < length (links_of v)

@@ -9,9 +9,11 @@ pub mod BodyLaws
 pub mod Lent
 pub mod Plans
 pub mod Links
+pub mod Unlinked
 pub mod BuiltIn
 -- of the inside: what walks and plans keep
 pub mod Names
+pub mod Made
 pub mod Exact
 pub mod Spelled
 pub mod Walking

@@ -66,6 +66,11 @@ abbrev pub AreLinks : Order → List Field → List ℕ → List FieldLink → T
 AreLinks order fields bytes links =
     (values : List Value) (tail : List ℕ) → IsBody order fields values tail bytes → links ≡ field_links 0 values
 
+-- These are the body's links, in turn.
+abbrev pub AreBodyLinks : Order → List Field → List ℕ → List StructLink → Type 0
+AreBodyLinks order fields bytes links =
+    (values : List Value) (tail : List ℕ) → IsBody order fields values tail bytes → links ≡ links_in values
+
 -- a link, or a list of them
 abbrev pub is_link_form : Form → Bool
 is_link_form Link = true

@@ -1,6 +1,8 @@
 -- Of the inside. What a walk over fields tells, and what is told of a body.
-use Rattle.std.specs.Prelude.{◌≡◌, ◌+◌, ◌≤◌, ◌<◌, List, [], ℕ, Result, Ok, Err, length, take, drop, map}
+use Rattle.std.specs.Prelude.{◌≡◌, ◌+◌, ◌-◌, ◌≤◌, ◌<◌, ◌⊎◌, List, [], ℕ, Result, Ok, Err, length, take, drop, map}
 use Rattle.std.specs.Prelude.{slice_index}
+use Rattle.std.specs.declared.alloc.AllocError.{AllocError}
+use Rattle.type_text.specs.declared.types.Link.{Link as StructLink}
 use Rattle.record_values.specs.declared.values.Value.{Value}
 use Rattle.layout_plan.specs.declared.walking.Walked.{Walked}
 use Rattle.scalar_types.specs.declared.Order.{Order}
@@ -13,7 +15,8 @@ use Rattle.layout_plan.specs.declared.faults.BodyFault.{BodyFault}
 use Rattle.layout_plan.specs.declared.faults.Measured.{Measured}
 use Rattle.layout_plan.specs.Body.{number_of, values_length, IsMeasured}
 use Rattle.layout_plan.specs.Reading.{fields_in, body_in}
-use Rattle.layout_plan.specs.Links.{is_link}
+use Rattle.layout_plan.specs.Appends.{Appends}
+use Rattle.layout_plan.specs.Links.{is_link, AreBodyLinks}
 use Rattle.layout_plan.specs.Marks.{mark_of, end_of, place_of, numbers_where}
 
 -- the first k fields have values, which end at a place of the body
@@ -72,3 +75,23 @@ number_at order form counts bytes = 0
 abbrev pub TellsBody : Order → List Field → List ℕ → Result Measured BodyFault → Type 0
 TellsBody order fields bytes (Ok m) = IsMeasured order fields bytes m.links m.zero_texts
 TellsBody order fields bytes (Err fault) = body_in order fields bytes ≡ Err fault
+
+-- all fields have values, after which no bytes stand or four, and are where their marks tell
+pub record IsWholeWalk (order : Order) (fields : List Field) (body : List ℕ) (ends : List ℕ) (w : Walked) : Type 0 where
+  pub reached : IsReached order fields body (length fields) w.at w.zero_texts
+  pub places : ArePlaces order fields body (length fields) ends
+  pub ended : (length body - w.at ≡ 0) ⊎ (length body - w.at ≡ 4)
+
+-- the whole body is walked over, or it has the fault
+abbrev pub TellsWhole : Order → List Field → List ℕ → List ℕ → Result Walked BodyFault → Type 0
+TellsWhole order fields body ends (Ok w) = IsWholeWalk order fields body ends w
+TellsWhole order fields body ends (Err fault) = body_in order fields body ≡ Err fault
+
+-- the body is measured, and its links stand behind the old ones; or it has the fault, or memory is out, and no link is
+-- put there
+abbrev pub TellsLinks : Order → List Field → List ℕ → List StructLink → List StructLink
+    → Result (Result Measured BodyFault) AllocError → Type 0
+TellsLinks order fields bytes old new (Ok (Ok m)) =
+    IsMeasured order fields bytes m.links m.zero_texts × Appends (AreBodyLinks order fields bytes) old new
+TellsLinks order fields bytes old new (Ok (Err fault)) = (body_in order fields bytes ≡ Err fault) × (new ≡ old)
+TellsLinks order fields bytes old new (Err e) = new ≡ old

@@ -18,6 +18,7 @@ mod rewriting;
 mod spelled;
 pub mod spelling;
 mod steps;
+mod unlinked;
 mod walking;
 
 pub use built_in::{element_plan, structure_plan};
@@ -26,11 +27,12 @@ pub use fields::{Count, CountList, Field, Form};
 pub use laws::{bodies_have_one_answer, faults_are_told, layouts_are_sound, lengths_are_told};
 pub use lent::{num_at, plain_link_at, span_of, text_at};
 pub use links::{FieldLink, LINK_SIZE, link_at, link_field, link_start, push_links};
-pub use measuring::{TAIL_SIZE, measure};
+pub use measuring::{TAIL_SIZE, measure, measure_links};
 pub use plan::{Plan, compile};
 pub use plans::Plans;
 pub use rewriting::rewrite;
 pub use spelled::capped_count;
+pub use unlinked::{plain_link_start, without_links};
 pub use walking::{FEW_FIELDS, FIELD_LIMIT};
 
 #[cfg(test)]

@@ -13,6 +13,7 @@ ghost use Rattle.layout_plan.specs.Marks.{mark_of};
 ghost use Rattle.layout_plan.specs.Walking.{ArePlaces, AreLinkPlaces};
 ghost use Rattle.layout_plan.specs.Links.{HasLink, HasLinkAt, HasLinkIn, IsLinkPlaced, IsReplaceable, AreLinks};
 ghost use Rattle.layout_plan.specs.Links.{links_with, HasLinks, is_link};
+ghost use Rattle.layout_plan.specs.Made.{IsMadeOf};
 ghost use Rattle.layout_plan.specs.Steps.{is_plain};
 
 use crate::lent::{place_by, walk_body};
@@ -30,6 +31,14 @@ pub const LINK_SIZE: usize = 6;
 pub struct FieldLink {
     pub field: u32,
     pub link: Link,
+}
+
+impl From<FieldLink> for Link {
+    ghost from_gives = { λ found link. link ≡ found.link };
+
+    fn from(found: FieldLink) -> Link {
+        found.link
+    }
 }
 
 /// Where a link of a body stands, and the number of the field that holds it.
@@ -143,6 +152,26 @@ fn push_all_in(
         return Ok(());
     }
     walk_body(plan, links[count - 1] as usize + 1, order, body, ends);
+    push_found(plan, order, body, into, ends)
+}
+
+/// Appends what is made of each of the links of a body in turn, by the ends of the varied fields. Where memory is out,
+/// some may stand there.
+#[inline(always)]
+pub fn push_found<T: From<FieldLink> + Drop>(
+    plan: &Plan,
+    order: Order,
+    body: &[u8],
+    into: &mut Vec<T>,
+    ends: &[usize],
+) -> Result<(), AllocError>
+    requires body { HasBody order plan.now body.now }
+    requires places { AreLinkPlaces order plan.now body.now ends.now }
+    ensures { Appends
+        (λ made. OnOk result (IsMadeOf T.from_gives (AreLinks order plan.now body.now) made))
+        into.old.items
+        into.new.items }
+{
     if plan.links_are_plain() {
         return push_plain(plan, order, body, into, ends);
     }
@@ -150,40 +179,45 @@ fn push_all_in(
 }
 
 /// Appends the links of a body, each of which is a field of its own, by the ends of the varied fields.
-fn push_plain(
+fn push_plain<T: From<FieldLink> + Drop>(
     plan: &Plan,
     order: Order,
     body: &[u8],
-    into: &mut Vec<FieldLink>,
+    into: &mut Vec<T>,
     ends: &[usize],
 ) -> Result<(), AllocError>
     requires body { HasBody order plan.now body.now }
     requires plain { list_all is_plain plan.now ≡ true }
     requires places { AreLinkPlaces order plan.now body.now ends.now }
-    ensures { Appends (λ links. OnOk result (AreLinks order plan.now body.now links)) into.old.items
+    ensures { Appends
+        (λ made. OnOk result (IsMadeOf T.from_gives (AreLinks order plan.now body.now) made))
+        into.old.items
         into.new.items }
 {
     for field in plan.links() {
         let start = place_by(plan, *field as usize, ends).start;
-        into.push(FieldLink {
+        let found = FieldLink {
             field: *field,
             link: link_of(order, &body[start..]),
-        })?;
+        };
+        into.push(T::from(found))?;
     }
     Ok(())
 }
 
 /// Appends the links of a body, of whose link fields some are lists, by the ends of the varied fields.
-fn push_lists(
+fn push_lists<T: From<FieldLink> + Drop>(
     plan: &Plan,
     order: Order,
     body: &[u8],
-    into: &mut Vec<FieldLink>,
+    into: &mut Vec<T>,
     ends: &[usize],
 ) -> Result<(), AllocError>
     requires body { HasBody order plan.now body.now }
     requires places { AreLinkPlaces order plan.now body.now ends.now }
-    ensures { Appends (λ links. OnOk result (AreLinks order plan.now body.now links)) into.old.items
+    ensures { Appends
+        (λ made. OnOk result (IsMadeOf T.from_gives (AreLinks order plan.now body.now) made))
+        into.old.items
         into.new.items }
 {
     for field in plan.links() {
@@ -195,23 +229,25 @@ fn push_lists(
 }
 
 /// Appends the links that these bytes spell, which are those of a field.
-fn push_field(
+fn push_field<T: From<FieldLink> + Drop>(
     order: Order,
     field: u32,
     bytes: &[u8],
-    into: &mut Vec<FieldLink>,
+    into: &mut Vec<T>,
 ) -> Result<(), AllocError>
     ensures { Appends
-        (λ links. OnOk result ((items : List StructLink) → AreItems (IsLink order) items bytes.now
-        → links ≡ links_with field items))
+        (λ made. OnOk result (IsMadeOf T.from_gives
+        (λ links. (items : List StructLink) → AreItems (IsLink order) items bytes.now → links ≡ links_with field items)
+        made))
         into.old.items
         into.new.items }
 {
     for i in 0..bytes.len() / LINK_SIZE {
-        into.push(FieldLink {
+        let found = FieldLink {
             field,
             link: link_of(order, &bytes[i * LINK_SIZE..]),
-        })?;
+        };
+        into.push(T::from(found))?;
     }
     Ok(())
 }

@@ -8,6 +8,7 @@ mod link_places;
 mod plans;
 mod products;
 mod rewriting;
+mod unlinked;
 
 use super::*;
 use dictionary::{Element, ElementList, Entry};

@@ -1,5 +1,6 @@
 use Rattle.std.proofs.Common.{◌+◌, ◌-◌, [], arith, length, get_or, refl}
 use Rattle.layout_plan.proofs.AppendLemmas.{Appends-none}
+use Rattle.layout_plan.proofs.MadeLemmas.{made-same}
 use Rattle.layout_plan.proofs.LinkLemmas.{link-within, fields-links-all}
 use Rattle.layout_plan.specs.Marks.{mark_of}
 use Rattle.layout_plan.proofs.MarkLemmas.{mark_of-later, IsLater-varied}
@@ -34,12 +35,10 @@ returns-then-count-eq0 c =
     (fields-links-all c.args.order c.args.plan.now c.args.body.now c.links-links.result.now 0 [] c.links-links.ensures
     (omega (arith, c.if-count-eq0.true)) (λ values tail body. refl))
 
-pub push_plain-requires-clause-places : goal.push_plain-requires-clause-places
-push_plain-requires-clause-places c =
+pub push_found-requires-clause-places : goal.push_found-requires-clause-places
+push_found-requires-clause-places c =
     link-places-all c.args.order c.args.plan.now c.args.body.now c.links-links.result.now c.walk_body.new.ends
     c.links-links.ensures c.walk_body.ensures
 
-pub push_lists-requires-clause-places : goal.push_lists-requires-clause-places
-push_lists-requires-clause-places c =
-    link-places-all c.args.order c.args.plan.now c.args.body.now c.links-links.result.now c.walk_body.new.ends
-    c.links-links.ensures c.walk_body.ensures
+pub returns : goal.returns
+returns c = made-same _ _ _ _ c.push_found.ensures
