@@ -1,6 +1,6 @@
 //! The numbering of the nodes of a graph in breadth-first order.
 
-ghost use Rattle.std.specs.Prelude.{◌≡◌, ℕ, ◌<◌, ◌↔◌, All, IfOk, IsSome, length};
+ghost use Rattle.std.specs.Prelude.{◌≡◌, ℕ, ◌<◌, ◌↔◌, [], All, IfOk, OnOk, OnErr, IsSome, length};
 ghost use Rattle.rooted_graph.specs.Rooted.{IsReached};
 ghost use Rattle.rooted_graph.specs.BreadthOrder.{IsBreadthOrder, number_of};
 
@@ -24,6 +24,15 @@ impl Model for Numbering {
 }
 
 impl Numbering {
+    /// Of no node. It takes no memory yet.
+    pub fn new(alloc: Global) -> Numbering
+        ensures { result ≡ [] }
+    {
+        Numbering {
+            queue: Queue::new(alloc),
+        }
+    }
+
     /// The numbering of a graph, in time linear in its nodes and links. It takes memory for all
     /// nodes first, and only want of memory is an error.
     pub fn of<G: LinkedNodes>(alloc: Global, graph: &G) -> Result<Numbering, AllocError>
@@ -32,7 +41,41 @@ impl Numbering {
         ensures reached { IfOk result
             (λ order. (n : ℕ) → IsSome (number_of order n) ↔ IsReached (G.graph graph.now) n) }
     {
-        let mut queue = Queue::new(alloc, graph.node_count())?;
+        let mut numbering = Numbering::new(alloc);
+        numbering.renew(graph)?;
+        Ok(numbering)
+    }
+
+    /// Becomes the numbering of a graph, in time linear in its nodes and links, whatever it was of. It takes
+    /// memory only where more nodes are met than ever before. After a refusal it is of no node.
+    pub fn renew<G: LinkedNodes>(&mut self, graph: &G) -> Result<(), AllocError>
+        ensures order { OnOk result (IsBreadthOrder (G.graph graph.now) self.new) }
+        ensures in_range { OnOk result (All (λ node. node < length (G.graph graph.now).links) self.new) }
+        ensures reached { OnOk result ((n : ℕ) → IsSome (number_of self.new n) ↔ IsReached (G.graph graph.now) n) }
+        ensures err { OnErr result (self.new ≡ []) }
+    {
+        let done = self.fill(graph);
+        if done.is_err() {
+            self.clear();
+        }
+        done
+    }
+
+    /// Becomes one of no node. Takes no memory.
+    pub fn clear(&mut self)
+        ensures { self.new ≡ [] }
+    {
+        self.queue.clear();
+    }
+
+    /// The same, but that after a refusal it is of some nodes of the graph.
+    fn fill<G: LinkedNodes>(&mut self, graph: &G) -> Result<(), AllocError>
+        ensures order { OnOk result (IsBreadthOrder (G.graph graph.now) self.new) }
+        ensures in_range { OnOk result (All (λ node. node < length (G.graph graph.now).links) self.new) }
+        ensures reached { OnOk result ((n : ℕ) → IsSome (number_of self.new n) ↔ IsReached (G.graph graph.now) n) }
+    {
+        let queue = &mut self.queue;
+        queue.renew(graph.node_count())?;
         queue.add_roots(graph)?;
         let mut place = 0;
         while place < queue.nodes.len() {
@@ -40,7 +83,7 @@ impl Numbering {
             queue.add_targets(graph, node)?;
             place += 1;
         }
-        Ok(Numbering { queue })
+        Ok(())
     }
 
     /// The nodes that some path ends in, in breadth-first order.

@@ -1,7 +1,7 @@
 //! The queue of a breadth-first walk: the nodes met so far, each once, and by node its place there.
 
-ghost use Rattle.std.specs.Prelude.{◌≡◌, ℕ, ◌<◌, ◌≤◌, ◌^◌, [], None, IfOk, OnOk, fold, length, count_by, is_some};
-ghost use Rattle.std.specs.Prelude.{replicate, slice_index_or};
+ghost use Rattle.std.specs.Prelude.{◌≡◌, ℕ, ◌<◌, ◌≤◌, ◌^◌, [], None, OnOk, fold, length, count_by, is_some};
+ghost use Rattle.std.specs.Prelude.{slice_index_or};
 ghost use Rattle.rooted_graph.specs.BreadthOrder.{added, number_of, targets};
 
 use crate::linked_nodes::LinkedNodes;
@@ -20,16 +20,32 @@ pub(crate) struct Queue {
 }
 
 impl Queue {
-    /// With no node yet, for nodes below a number.
-    pub(crate) fn new(alloc: Global, node_count: u32) -> Result<Queue, AllocError>
-        ensures empty { IfOk result (λ queue. queue.nodes.items ≡ []) }
-        ensures size { IfOk result (λ queue. length queue.numbers.items ≡ node_count) }
+    /// With no node yet, for none. It takes no memory yet.
+    pub(crate) fn new(alloc: Global) -> Queue
+        ensures { result.nodes.items ≡ [] }
     {
-        let numbers = blank(alloc, node_count)?;
-        Ok(Queue {
+        Queue {
             nodes: Vec::new(alloc),
-            numbers,
-        })
+            numbers: Vec::new(alloc),
+        }
+    }
+
+    /// Leaves no node, and makes room for nodes below a number.
+    pub(crate) fn renew(&mut self, node_count: u32) -> Result<(), AllocError>
+        ensures empty { self.new.nodes.items ≡ [] }
+        ensures size { OnOk result (length self.new.numbers.items ≡ node_count) }
+    {
+        self.clear();
+        self.numbers.resize(node_count as usize, None)
+    }
+
+    /// Leaves no node, and room for none. Keeps the memory.
+    pub(crate) fn clear(&mut self)
+        ensures nodes { self.new.nodes.items ≡ [] }
+        ensures numbers { self.new.numbers.items ≡ [] }
+    {
+        self.nodes.clear();
+        self.numbers.clear();
     }
 
     /// Puts a node at the end, unless it was met before.
@@ -78,11 +94,4 @@ impl Queue {
         }
         Ok(())
     }
-}
-
-/// No number for each of so many nodes.
-fn blank(alloc: Global, node_count: u32) -> Result<Vec<Option<u32>>, AllocError>
-    ensures { IfOk result (λ numbers. numbers.items ≡ replicate node_count None) }
-{
-    vec![in alloc; None; node_count as usize]
 }

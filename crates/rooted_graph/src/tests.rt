@@ -180,6 +180,23 @@ fn many_links_to_itself_are_one_node(rt: HostRuntime) -> Result<(), Fail> {
     Ok(())
 }
 
+#[test]
+fn a_numbering_is_filled_again(rt: HostRuntime) -> Result<(), Fail> {
+    let mut numbering = Numbering::new(rt.alloc());
+    let large: [&[u32]; 3] = [&[1], &[2], &[0]];
+    let small: [&[u32]; 2] = [&[], &[1]];
+    let first = Rows::new(&large, &[1]).ok_or("a wrong root")?;
+    let second = Rows::new(&small, &[1]).ok_or("a wrong root")?;
+    numbering.renew(&first)?;
+    assert_eq!(rt; numbering.sequence(), [1, 2, 0].as_slice());
+    numbering.renew(&second)?;
+    assert_eq!(rt; numbering.sequence(), [1].as_slice());
+    assert_eq!(rt; numbering.number_of(0), None);
+    numbering.clear();
+    assert_eq!(rt; numbering.number_of(1), None);
+    Ok(())
+}
+
 /// The order of the chain in which node k has one link, to `next[k]`.
 fn chain_order(alloc: Global, next: &[u32], root: u32) -> Result<Vec<u32>, Fail> {
     let rows: Vec<&[u32]> = next.chunks(1).collect(alloc)?;

@@ -1,6 +1,6 @@
 use Rattle.std.proofs.Common.{◌≡◌, ◌-◌, length}
 use Rattle.rooted_graph.proofs.Queues.{IsQueue}
-use Rattle.rooted_graph.proofs.numbering.Numbering.of.Given as goal
+use Rattle.rooted_graph.proofs.numbering.Numbering.fill.Given as goal
 
 abbrev pub invariant-loop-place : goal.invariant-loop-place
 invariant-loop-place g l =

@@ -4,14 +4,14 @@ use Rattle.std.proofs.lemmas.List.{get_or_read}
 use Rattle.rooted_graph.proofs.Queues.{queue_of_roots, queue_more, queue_end}
 use Rattle.rooted_graph.proofs.Reached.{numbered_where_reached}
 use Rattle.rooted_graph.proofs.Tables.{member_within, members_within}
-use Rattle.rooted_graph.proofs.numbering.Numbering.of.Goals as goal
+use Rattle.rooted_graph.proofs.numbering.Numbering.fill.Goals as goal
 
 pub loop-place-init : goal.loop-place-init
 loop-place-init g c =
     record {
-      queue = queue_of_roots (g.G.LinkedNodes.graph c.args.graph.now) c.in_ok-queue.queue.nodes.items
-          c.add_roots.new.self.nodes.items c.in_ok-queue.ensures.empty c.in_ok-add_roots.ensures.nodes;
-      size = c.add_roots.ensures.size ∙ c.in_ok-queue.ensures.size ∙ c.node_count.ensures;
+      queue = queue_of_roots (g.G.LinkedNodes.graph c.args.graph.now) c.renew.new.self.nodes.items
+          c.add_roots.new.self.nodes.items c.renew.ensures.empty c.in_ok-add_roots.ensures.nodes;
+      size = c.add_roots.ensures.size ∙ c.in_ok-renew.ensures.size ∙ c.node_count.ensures;
     }
 
 pub add_targets-requires-clause-node : goal.add_targets-requires-clause-node
