@@ -1,7 +1,7 @@
 -- What is found by class and instance.
 use Rattle.std.proofs.Common.{◌≡◌, ℕ, ◌+◌, ◌<◌, Bool, true, false, cond, List, [], ◌∷◌, ◌++◌, length}
 use Rattle.std.proofs.Common.{map, is_some, Option, Some, None, refl, sym, ap, ◌∙◌, subst, arith}
-use Rattle.std.specs.Prelude.{◌==◌, ◌&&◌, nat_lt, not, IsTrue, IsSome, OnOk, Result, Ok, Err, is_err}
+use Rattle.std.specs.Prelude.{◌==◌, ◌&&◌, nat_lt, not, IsTrue, IsSome, OnOk, Result, Ok, Err, is_ok, is_err}
 use Rattle.std.specs.List.{position_or_len}
 use Rattle.std.proofs.lemmas.List.{length-map, length_push, map-append}
 use Rattle.std.proofs.lemmas.Bool.{ne_eqb}
@@ -123,6 +123,10 @@ not-none found e t = cc
 pub ok-map : {T E P Q : Type 0} (r : Result T E) → (P → Q) → OnOk r P → OnOk r Q
 ok-map (Ok x) f p = f p
 ok-map (Err x) f p = p
+
+pub ok-unless : {T E : Type 0} (r : Result T E) → is_err r ≡ false → is_ok r ≡ true
+ok-unless (Ok x) e = refl
+ok-unless (Err x) e = cc
 
 pub Some-same : {X : Type 0} (x y : X) → ◌≡◌ {A = Option X} (Some x) (Some y) → x ≡ y
 Some-same x y e = cc

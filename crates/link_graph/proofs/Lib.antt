@@ -5,6 +5,8 @@ pub mod Found
 pub mod Marking
 pub mod Bodies
 pub mod Writing
+pub mod Overwriting
+pub mod KeptLinks
 pub mod FirstLoose
 pub mod Tables
 pub mod Spelled

@@ -40,6 +40,10 @@ abbrev pub links_of : Layouts → Order → Bodied → List Link
 links_of plans order r =
     option_map_or (λ fields. links_by order fields r.body) (plan_of plans r.node.class) []
 
+-- the links of all records, row by row
+abbrev pub all_links : Layouts → Collected → List (List Link)
+all_links plans s = map (links_of plans s.order) s.nodes
+
 -- where they lead
 abbrev pub targets_of : Layouts → Order → List Bodied → Bodied → List (Option ℕ)
 targets_of plans order nodes r = map (target_of nodes) (links_of plans order r)

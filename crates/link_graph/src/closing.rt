@@ -1,12 +1,13 @@
 //! A frame that is complete: every link leads somewhere, and its records have a breadth-first order.
 
-ghost use Rattle.std.specs.Prelude.{◌≡◌, ◌<◌, ◌≤◌, ℕ, All, None, Some, Err, length, IfOk, OnOk, IsSome, ◌↔◌};
+ghost use Rattle.std.specs.Prelude.{◌≡◌, ◌<◌, ◌++◌, ◌∷◌, [], ℕ, All, None, Some, Err, length, slice_get, ◌↔◌};
+ghost use Rattle.std.specs.Prelude.{IfOk, OnOk, OnErr, IfSome, IsSome};
 ghost use Rattle.rooted_graph.specs.BreadthOrder.{IsBreadthOrder, number_of};
 ghost use Rattle.rooted_graph.specs.Rooted.{IsReached};
-ghost use Rattle.link_graph.specs.Graph.{ReadsBy, first_loose, graph_of};
+ghost use Rattle.link_graph.specs.Graph.{Layouts, ReadsBy, links_of, all_links, first_loose, graph_of};
 
+use crate::frame_links::FrameLinks;
 use crate::segment::Segment;
-use crate::targets::Targets;
 use layout_plan::Plans;
 use rooted_graph::Numbering;
 use std::alloc::{AllocError, Global};
@@ -18,7 +19,7 @@ pub enum CloseFault {
     /// A link that is not null and has no target: the first such of the first record that has one, both
     /// from 0.
     #[error("LooseLink")]
-    LooseLink { node: u32, link: u32 },
+    LooseLink { node: u32, link: u64 },
     /// There was no memory.
     #[error("NoMemory")]
     NoMemory,
@@ -53,10 +54,71 @@ impl Segment {
         ensures reached { IfOk result (λ order. (n : ℕ)
             → IsSome (number_of order n) ↔ IsReached (graph_of plans.now self.now) n) }
     {
-        let targets = Targets::of(alloc, self, plans)?;
-        match Numbering::of(alloc, &targets) {
-            Ok(numbering) => Ok(numbering),
-            Err(AllocError) => Err(CloseFault::NoMemory),
+        let mut links = FrameLinks::new(alloc);
+        self.read_links(plans, &mut links)?;
+        let mut numbering = Numbering::new(alloc);
+        self.close_by(&mut links, &mut numbering)?;
+        Ok(numbering)
+    }
+
+    /// The same, where the links of the records were read as they came, into a numbering that is used again.
+    /// Of each record there is a row of links. What is said holds for all plans by which these are its links.
+    /// After a refusal the numbering is of no record.
+    ///
+    /// # Errors
+    ///
+    /// As those of `close`.
+    pub fn close_by(
+        &self,
+        links: &mut FrameLinks,
+        numbering: &mut Numbering,
+    ) -> Result<(), CloseFault>
+        requires { length links.old ≡ length self.now.nodes }
+        ensures kept { links.new ≡ links.old }
+        ensures loose { (plans : Layouts) → links.old ≡ all_links plans self.now → (node link : ℕ)
+            → result ≡ Err (CloseFault.LooseLink node link) → first_loose plans self.now ≡ Some (node, link) }
+        ensures linked { (plans : Layouts) → links.old ≡ all_links plans self.now
+            → OnOk result (first_loose plans self.now ≡ None) }
+        ensures order { (plans : Layouts) → links.old ≡ all_links plans self.now
+            → OnOk result (IsBreadthOrder (graph_of plans self.now) numbering.new) }
+        ensures in_range { OnOk result (All (λ node. node < length self.now.nodes) numbering.new) }
+        ensures reached { (plans : Layouts) → links.old ≡ all_links plans self.now → OnOk result ((n : ℕ)
+            → IsSome (number_of numbering.new n) ↔ IsReached (graph_of plans self.now) n) }
+        ensures err { OnErr result (numbering.new ≡ []) }
+    {
+        let done = links.number(self, numbering);
+        if done.is_err() {
+            numbering.clear();
+        }
+        done
+    }
+
+    /// Reads the links of the records by the plans of their classes, in place of those read before. Every body
+    /// reads by its plan.
+    pub fn read_links(&self, plans: &Plans, links: &mut FrameLinks) -> Result<(), AllocError>
+        requires { All (ReadsBy plans.now self.now.order) self.now.nodes }
+        ensures { OnOk result (links.new ≡ all_links plans.now self.now) }
+    {
+        links.clear();
+        for k in 0..self.len() {
+            self.add_links(plans, k, links)?;
+        }
+        Ok(())
+    }
+
+    /// Puts the links of a record as a row behind the others.
+    fn add_links(&self, plans: &Plans, k: u32, links: &mut FrameLinks) -> Result<(), AllocError>
+        requires node { k < length self.now.nodes }
+        requires reads { All (ReadsBy plans.now self.now.order) self.now.nodes }
+        ensures { OnOk result (IfSome (slice_get self.now.nodes k)
+            (λ r. links.new ≡ links.old ++ links_of plans.now self.now.order r ∷ [])) }
+    {
+        let Some(plan) = plans.plan(self.node(k).class) else {
+            unreachable!()
+        };
+        match links.add(plan, self.order(), self.body(k))? {
+            Ok(_) => Ok(()),
+            Err(_) => unreachable!(),
         }
     }
 }

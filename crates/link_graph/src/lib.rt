@@ -3,11 +3,12 @@
 #![tactic(auto)]
 
 mod closing;
+mod frame_links;
 mod index;
 mod links;
 mod nodes;
-mod plan_near;
 mod records;
+mod relinking;
 mod rows;
 mod segment;
 mod targets;
@@ -15,6 +16,7 @@ mod targets;
 mod tests;
 
 pub use closing::CloseFault;
+pub use frame_links::FrameLinks;
 pub use nodes::{Node, Root};
 pub use rooted_graph::Numbering;
 pub use segment::{Segment, SegmentFault};

@@ -1,73 +1,63 @@
-//! The targets of a frame's links and its roots, put together record by record.
+//! The targets of a frame's links, and its roots, put into lists.
 
-ghost use Rattle.std.specs.Prelude.{◌≡◌, ◌<◌, ◌≤◌, ◌++◌, ◌∷◌, [], ℕ, All, None, Some, Err, length, map};
+ghost use Rattle.std.specs.Prelude.{◌≡◌, ◌≤◌, ◌++◌, ◌∷◌, [], ℕ, None, Some, Err, length, map};
 ghost use Rattle.std.specs.Prelude.{position, if◌then◌else◌, ◌==◌, ◌&&◌, not, is_none, IfOk, OnOk};
 ghost use Rattle.link_graph.specs.Collected.{target_of, same_root};
-ghost use Rattle.link_graph.specs.Graph.{ReadsBy, link_in, is_loose, first_loose, roots_from};
-ghost use Rattle.link_graph.specs.Table.{AreRows};
+ghost use Rattle.link_graph.specs.Graph.{is_loose, roots_from};
+ghost use Rattle.link_graph.specs.Table.{AreEnds, rows_from, loose_row};
 
 use crate::closing::CloseFault;
 use crate::nodes::{Root, is_same};
-use crate::plan_near::PlanNear;
 use crate::segment::Segment;
-use layout_plan::{FieldLink, Plans};
-use std::alloc::{AllocError, Global};
+use std::alloc::AllocError;
 use type_text::Link;
 
-/// Puts the targets of all links, record by record, and where each record's end; or answers the first loose
-/// link.
-pub fn put_rows(
-    alloc: Global,
+/// Puts the targets of all links in place of those in a list, up to the first link that is loose. The links
+/// are rows that end at these places, one for each record.
+pub fn put_targets(
     segment: &Segment,
-    plans: &Plans,
+    links: &[Link],
+    ends: &[usize],
     targets: &mut Vec<Option<u32>>,
-    ends: &mut Vec<usize>,
 ) -> Result<(), CloseFault>
-    requires reads { All (ReadsBy plans.now segment.now.order) segment.now.nodes }
-    requires no_targets { targets.old.items ≡ [] }
-    requires no_ends { ends.old.items ≡ [] }
+    requires count { length ends.now ≡ length segment.now.nodes }
+    requires placed { AreEnds 0 ends.now (length links.now) }
     ensures loose { (node link : ℕ) → result ≡ Err (CloseFault.LooseLink node link)
-        → first_loose plans.now segment.now ≡ Some (node, link) }
-    ensures linked { OnOk result (first_loose plans.now segment.now ≡ None) }
+        → loose_row segment.now.nodes 0 (rows_from 0 ends.now links.now) ≡ Some (node, link) }
+    ensures linked { OnOk result (loose_row segment.now.nodes 0 (rows_from 0 ends.now links.now) ≡ None) }
+    ensures put { OnOk result (targets.new.items ≡ map (target_of segment.now.nodes) links.now) }
     ensures few { length segment.now.nodes ≤ 4294967295 }
-    ensures rows { OnOk result
-        (AreRows plans.now segment.now (length segment.now.nodes) targets.new.items ends.new.items) }
 {
-    let mut links = Vec::new(alloc);
-    let mut plan_near = PlanNear::new(plans);
+    targets.clear();
     let mut near = 0;
+    let mut from = 0;
     for k in 0..segment.len() {
-        segment.read_links(&mut plan_near, k, &mut links)?;
-        if let Some(link) = put_targets(segment, links.as_slice(), targets, &mut near)? {
+        let to = ends[k as usize];
+        if let Some(link) = put_row(segment, &links[from..to], targets, &mut near)? {
             return Err(CloseFault::LooseLink { node: k, link });
         }
-        if ends.push(targets.len()).is_err() {
-            return Err(CloseFault::NoMemory);
-        }
+        from = to;
     }
     Ok(())
 }
 
 /// Puts the targets of some links behind the others, up to the first that is loose. The target found last is
 /// `near`.
-fn put_targets(
+fn put_row(
     segment: &Segment,
-    links: &[FieldLink],
+    links: &[Link],
     targets: &mut Vec<Option<u32>>,
     near: &mut u32,
-) -> Result<Option<u32>, AllocError>
-    requires { length links.now ≤ 4294967295 }
-    ensures loose { IfOk result
-        (λ found. found ≡ position (is_loose segment.now.nodes) (map link_in links.now)) }
+) -> Result<Option<u64>, AllocError>
+    ensures loose { IfOk result (λ found. found ≡ position (is_loose segment.now.nodes) links.now) }
     ensures put { IfOk result (λ found. found ≡ None
-        → targets.new.items
-        ≡ targets.old.items ++ map (target_of segment.now.nodes) (map link_in links.now)) }
+        → targets.new.items ≡ targets.old.items ++ map (target_of segment.now.nodes) links.now) }
 {
     for k in 0..links.len() {
-        let link = links[k].link;
+        let link = links[k];
         let target = segment.target_near(link, near);
         if is_loose(link, target) {
-            return Ok(Some(k as u32));
+            return Ok(Some(k as u64));
         }
         targets.push(target)?;
     }

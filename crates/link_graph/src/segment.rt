@@ -6,6 +6,7 @@ ghost use Rattle.std.specs.Option.{option_map, option_copied, option_map_or};
 ghost use Rattle.link_graph.specs.Collected.{Collected, Bodied, Becomes, nothing_in, with_node, with_end};
 ghost use Rattle.link_graph.specs.Collected.{without_stat, target_of, is_held};
 ghost use Rattle.link_graph.specs.Relinked.{HasLinkBy, SetsLink, IsLinkOf};
+ghost use Rattle.link_graph.specs.Unlinked.{Overwrites};
 
 use crate::index::PushFault;
 use crate::links::link_bytes;
@@ -232,10 +233,19 @@ impl Segment {
         requires link { IfSome (slice_get self.old.nodes node) (HasLinkBy plans.now self.old.order k) }
         ensures { SetsLink plans.now node k to self.old self.new }
     {
-        let order = self.order;
-        let span = self.records.record(node).span;
         let at = self.link_place(plans, node, k);
-        self.region.write(span, at, &link_bytes(order, to));
+        self.write_body(node, at, &link_bytes(self.order(), to));
+    }
+
+    /// Writes a piece over bytes of the body of a record, from a place in it on. Takes no memory.
+    pub(crate) fn write_body(&mut self, node: u32, at: u32, piece: &[u8])
+        requires node { node < length self.old.nodes }
+        requires within { IfSome (slice_get self.old.nodes node)
+            (λ r. at + length piece.now ≤ length r.body) }
+        ensures { Overwrites node at piece.now self.old self.new }
+    {
+        let span = self.records.record(node).span;
+        self.region.write(span, at, piece);
     }
 
     /// Where the link of number k begins in the body of a record.

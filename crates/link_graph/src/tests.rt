@@ -3,12 +3,14 @@
 
 ghost use Rattle.std.specs.Prelude.{◌≡◌, ◌<◌, IsTrue, IfSome, All, length, slice_get};
 ghost use Rattle.link_graph.specs.Graph.{ReadsBy};
+ghost use Rattle.layout_plan.specs.Lent.{IsLinkField};
 ghost use Rattle.link_graph.specs.Relinked.{HasLinkBy};
+ghost use Rattle.link_graph.specs.Unlinked.{HasPlainLinkBy};
 
 use crate::links::link_bytes;
 use crate::{CloseFault, Node, Numbering, Root, Segment, SegmentFault};
 use dictionary::{Element, ElementList, Entry};
-use layout_plan::{Plans, measure};
+use layout_plan::{Form, Plan, Plans, measure};
 use scalar_types::Order;
 use std::alloc::{AllocError, Global};
 use std::process::Abort;
@@ -204,7 +206,7 @@ fn segment_of(alloc: Global, records: &[Made]) -> Result<Segment, SegmentFault> 
     Ok(segment)
 }
 
-fn loose(node: u32, link: u32) -> CloseFault {
+fn loose(node: u32, link: u64) -> CloseFault {
     CloseFault::LooseLink { node, link }
 }
 
@@ -272,6 +274,67 @@ fn links_are_set_and_roots_are_dropped(rt: HostRuntime) -> Result<(), Fail> {
         is_order(rt.alloc(), &segment, &plans, &[1, 3, 2, 6]),
         "one root"
     );
+    Ok(())
+}
+
+/// Keeps the link of a field of a record, and no other, where the record reads and the field is a link without
+/// dimension.
+fn keep_link(
+    alloc: Global,
+    segment: &mut Segment,
+    plans: &Plans,
+    k: u32,
+    field: u32,
+    to: Link,
+) -> Result<bool, AllocError> {
+    if k >= segment.len() || !has_plain_link(segment, plans, k, field) {
+        return Ok(false);
+    }
+    segment.keep_link(alloc, plans, k, field, to)?;
+    Ok(true)
+}
+
+/// Whether a record reads by its plan, in which the field is a link without dimension.
+fn has_plain_link(segment: &Segment, plans: &Plans, k: u32, field: u32) -> bool
+    requires { k < length segment.now.nodes }
+    ensures { IsTrue result → IfSome (slice_get segment.now.nodes k)
+        (HasPlainLinkBy plans.now segment.now.order field) }
+{
+    match plans.plan(segment.node(k).class) {
+        Some(plan) => {
+            measure(plan, segment.order(), segment.body(k)).is_ok() && is_plain_link(plan, field)
+        }
+        None => false,
+    }
+}
+
+/// Whether a field is a link without dimension.
+fn is_plain_link(plan: &Plan, field: u32) -> bool
+    ensures { IsTrue result → IsLinkField plan.now field }
+{
+    match plan.fields().get(field as usize) {
+        Some(found) => found.counts.is_empty() && matches!(found.form, Form::Link),
+        None => false,
+    }
+}
+
+/// Whether the record of a number has this body.
+fn has_body(segment: &Segment, k: u32, body: &[u8]) -> bool {
+    k < segment.len() && segment.body(k) == body
+}
+
+#[test]
+fn one_link_of_a_record_is_kept(rt: HostRuntime) -> Result<(), Fail> {
+    let plans = plans(rt.alloc())?;
+    let mut segment = segment_of(rt.alloc(), &FRAME)?;
+    let there = Link {
+        class: 12,
+        instance: 7,
+    };
+    let kept = keep_link(rt.alloc(), &mut segment, &plans, 1, 1, there)?;
+    assert!(rt; kept, "kept");
+    let want = [0, 0, 0, 0, 0, 0, 12, 0, 7, 0, 0, 0];
+    assert!(rt; has_body(&segment, 1, &want), "body");
     Ok(())
 }
 
