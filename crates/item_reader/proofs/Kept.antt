@@ -16,6 +16,7 @@ use Rattle.dictionary.specs.Dictionary.{entry_of}
 use Rattle.layout_plan.specs.declared.fields.Field.{Field}
 use Rattle.layout_plan.specs.Layout.{layout_of}
 use Rattle.link_graph.specs.declared.nodes.Root.TheVariants as root
+use Rattle.type_text.specs.declared.types.Link.{Link}
 use Rattle.link_graph.specs.Collected.{Bodied, Collected, Becomes, with_node, with_end}
 use Rattle.file_grammar.specs.declared.reason.Reason.{Reason}
 use Rattle.file_grammar.specs.declared.reason.Reason.TheVariants.{OpenFrame, BadClosing, FrameCount}
@@ -178,11 +179,12 @@ sound-record s p told_weight header segment sound none here size reads heavy lig
 
 -- ---- the end of a frame
 
-pub sound-frame_end : (s : State) (p : Placed) (segment : Collected) (numbers : List ℕ) → IsSound s
-    → IsStructureAt s.at p → p.at + p.length ≤ file_limit → s.frames < frames_limit
+pub sound-frame_end : (s : State) (p : Placed) (segment : Collected) (links : List (List Link))
+    (kept : Option (List ℕ)) (numbers : List ℕ) → kept ≡ Some numbers → IsSound s → IsStructureAt s.at p
+    → p.at + p.length ≤ file_limit → s.frames < frames_limit
     → Becomes segment (with_end (node_by s.dictionary p) s.segment)
-    → IsKept s (after_frame_end s p segment numbers)
-sound-frame_end s p segment numbers sound here low few becomes = record {
+    → IsKept s (after_frame_end s p segment links kept)
+sound-frame_end s p segment links kept numbers ended sound here low few becomes = record {
   sound = record {
     low = omega (arith, here.place, low);
     header = omega (arith, sound.header);
@@ -190,7 +192,7 @@ sound-frame_end s p segment numbers sound here low few becomes = record {
     plans = sound.plans;
     nodes = subst (λ order. All (IsRecord order s.dictionary) segment.nodes) (sym becomes.order)
         (All-same (IsRecord s.segment.order s.dictionary) segment.nodes s.segment.nodes becomes.nodes sound.nodes);
-    frame = λ none. absurd (none-some numbers (sym none));
+    frame = λ none. absurd (none-some numbers (sym none ∙ ended));
     no_frame = λ some. record { load = refl; header_is = refl };
     load = omega arith;
     frames = omega (arith, few);
@@ -198,6 +200,27 @@ sound-frame_end s p segment numbers sound here low few becomes = record {
   };
   pending = becomes.pending;
   order = becomes.order;
+}
+
+-- what is beside the frame does not matter, while it is open
+pub sound-beside : (s : State) (links : List (List Link)) (kept : Option (List ℕ)) → kept ≡ s.numbering
+    → IsSound s → IsSound (record s { links = links; numbering = kept })
+sound-beside s links kept same sound = record {
+  low = sound.low;
+  header = sound.header;
+  built_in = record { structure = sound.built_in.structure; element = sound.built_in.element };
+  plans = sound.plans;
+  nodes = sound.nodes;
+  frame = λ none. let o : IsOpen s = sound.frame (sym same ∙ none) in record {
+    end_record = o.end_record;
+    given = o.given;
+    header_is = o.header_is;
+  };
+  no_frame = λ some. let n : HasNoFrame s = sound.no_frame (subst IsSome same some) in
+      record { load = n.load; header_is = n.header_is };
+  load = sound.load;
+  frames = sound.frames;
+  records = sound.records;
 }
 
 -- ---- the end of the file

@@ -1,5 +1,5 @@
 -- What an item was, once it was taken: what is told of it, and what stands before the next place.
-use Rattle.std.proofs.Common.{◌≡◌, ◌≢◌, ◌↔◌, ℕ, ◌+◌, ◌≤◌, Bool, true, false, List, [], ◌∷◌, ◌++◌}
+use Rattle.std.proofs.Common.{Option, ◌≡◌, ◌≢◌, ◌↔◌, ℕ, ◌+◌, ◌≤◌, Bool, true, false, List, [], ◌∷◌, ◌++◌}
 use Rattle.std.proofs.Common.{map}
 use Rattle.std.proofs.Common.{length, Some, None, Result, Ok, Err, refl, sym, ap, ◌∙◌, subst}
 use Rattle.std.proofs.Common.{sum_by}
@@ -12,6 +12,7 @@ use Rattle.dictionary.specs.declared.entries.Element.{Element}
 use Rattle.dictionary.specs.declared.entries.Entry.{Entry}
 use Rattle.link_graph.specs.declared.segment.SegmentFault.{SegmentFault}
 use Rattle.link_graph.specs.declared.segment.SegmentFault.TheVariants as segment
+use Rattle.type_text.specs.declared.types.Link.{Link}
 use Rattle.link_graph.specs.Collected.{Collected, Becomes, with_node, is_held}
 use Rattle.file_grammar.specs.declared.reason.Reason.TheVariants.{InstanceTwice}
 use Rattle.file_grammar.specs.declared.fault.Fault.{Fault}
@@ -149,11 +150,12 @@ frame_end-refused s p told_weight result errors.NoMemory new file body unclosed 
     = tt
 
 -- the state after the end of a frame
-abbrev pub after_frame_end : State → Placed → Collected → List ℕ → State
-after_frame_end s p segment numbers = record s {
+abbrev pub after_frame_end : State → Placed → Collected → List (List Link) → Option (List ℕ) → State
+after_frame_end s p segment links kept = record s {
   at = s.at + p.length;
   segment = segment;
-  numbering = Some numbers;
+  links = links;
+  numbering = kept;
   header = false;
   load = 0;
   frames = s.frames + 1;
@@ -161,12 +163,12 @@ after_frame_end s p segment numbers = record s {
 }
 
 pub takes-frame_end : (s : State) (p : Placed) (told_weight : ℕ) (segment : Collected)
-    (numbers file body : List ℕ)
+    (links : List (List Link)) (kept : Option (List ℕ)) (numbers file body : List ℕ) → kept ≡ Some numbers
     → s.closed ≡ false → StandsIn s.segment.order s.at p body file
     → kind_of s.dictionary p.class ≡ FrEndOfFrame
     → IsWeighed (here_in s file) told_weight → first_of frame_end_reasons (here_in s file) ≡ None
-    → Takes (here_in s file) (given.FrameEnd p.at p.class) (after_frame_end s p segment numbers)
-takes-frame_end s p told_weight segment numbers file body unclosed stands kind_is w none =
+    → Takes (here_in s file) (given.FrameEnd p.at p.class) (after_frame_end s p segment links kept)
+takes-frame_end s p told_weight segment links kept numbers file body ended unclosed stands kind_is w none =
     let h : Here = here_in s file in
     let is : kind h ≡ FrEndOfFrame = kind-here h p stands.placed ∙ kind_is in
     record {
@@ -181,7 +183,7 @@ takes-frame_end s p told_weight segment numbers file body unclosed stands kind_i
       after =
           (λ i. record (before_of s) {
             place = sym (end-here h p stands.placed) i;
-            frame = [];
+            frame = open_records (ended i) segment;
             load = 0;
             frames = s.frames + 1;
             records = s.records + 1;

@@ -11,6 +11,7 @@ use Rattle.layout_plan.specs.Body.{values_length}
 use Rattle.layout_plan.specs.Plans.{plan_of}
 use Rattle.link_graph.specs.declared.nodes.Node.{Node}
 use Rattle.link_graph.specs.Graph.{graph_of}
+use Rattle.rooted_graph.specs.Rooted.{Rooted}
 use Rattle.rooted_graph.specs.BreadthOrder.{IsBreadthOrder}
 use Rattle.file_grammar.specs.declared.reason.Reason.{Reason}
 use Rattle.file_grammar.specs.declared.reason.Reason.TheVariants.{RecordLimit, FrameLimit, NoLayout, UnreadLayout}
@@ -191,6 +192,12 @@ pub record IsOpenStill (old new : State) : Type 0 where
 -- the node of a structure
 abbrev pub node_by : List Entry → Placed → Node
 node_by entries_before p = node_of entries_before (structure_by p [])
+
+-- the order that is kept is the breadth-first one of a graph
+pub record HasOrder (g : Rooted) (kept : Option (List ℕ)) : Type 0 where
+  pub numbers : List ℕ
+  pub is : kept ≡ Some numbers
+  pub breadth : IsBreadthOrder g numbers
 
 -- A frame has ended: its records are those that were open, with the end record, and a breadth-first order goes with it.
 pub record EndsFrame (old : State) (p : Placed) (new : State) : Type 0 where

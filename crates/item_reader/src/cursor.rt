@@ -297,8 +297,7 @@ impl Cursor {
             (λ h. IsWithinLook h.order h.file h.before.place (bytes_drawn self.new.source))) }
     {
         self.bring_record(shelf, placed)?;
-        let alloc = *self.own.allocator();
-        self.state.take_frame_end(alloc, placed)
+        self.state.take_frame_end(placed)
     }
 
     /// Takes any other record of a frame.

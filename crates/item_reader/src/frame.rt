@@ -1,8 +1,7 @@
 //! The frame that is open: a record that joins it, and its end.
 
-ghost use Rattle.std.specs.Prelude.{◌≡◌, ◌<◌, ℕ, List, true, IfOk, None, Some, Err, OnOk};
+ghost use Rattle.std.specs.Prelude.{◌≡◌, ◌<◌, ℕ, List, true, None, Some, Err, OnOk};
 ghost use Rattle.link_graph.specs.Graph.{first_loose, graph_of};
-ghost use Rattle.rooted_graph.specs.BreadthOrder.{IsBreadthOrder};
 ghost use Rattle.file_grammar.specs.declared.kind.Kind.TheVariants as variant;
 ghost use Rattle.file_grammar.specs.Kind.{kind_of, is_target_kind};
 ghost use Rattle.file_grammar.specs.declared.reason.Reason.TheVariants as reason;
@@ -11,15 +10,14 @@ ghost use Rattle.file_grammar.specs.Record.{first_loose as first_loose_of};
 ghost use Rattle.file_grammar.specs.Fault.{first_of};
 ghost use Rattle.item_reader.specs.Placed.{IsStructureAt};
 ghost use Rattle.item_reader.specs.State.{IsSound, frame_of};
-ghost use Rattle.item_reader.specs.Judged.{InEachFile, later_record_reasons, frame_end_reasons};
+ghost use Rattle.item_reader.specs.Judged.{InEachFile, HasOrder, later_record_reasons, frame_end_reasons};
 
 use crate::item::ReadError;
 use crate::state::State;
 use crate::structure::Placed;
 use file_grammar::{FRAMES_LIMIT, Fault, Kind, Reason};
 use layout_plan::link_field;
-use link_graph::{CloseFault, Numbering};
-use std::alloc::Global;
+use link_graph::CloseFault;
 
 impl State {
     /// Why a record that is no end record and has no twin in the open frame may not stand in it.
@@ -38,41 +36,48 @@ impl State {
         self.place_fault(placed)
     }
 
-    /// The breadth-first order of the open frame, where it may end here.
-    pub fn close_frame(&self, alloc: Global, placed: Placed) -> Result<Numbering, ReadError>
-        requires sound { IsSound self.now }
-        requires open { self.now.numbering ≡ None }
-        requires here { IsStructureAt self.now.at placed }
-        requires kind { kind_of self.now.dictionary placed.class ≡ variant.FrEndOfFrame }
-        ensures none { (body : List ℕ) → OnOk result (InEachFile self.now placed body
-            (λ h. first_of frame_end_reasons h ≡ None)) }
+    /// Ends the open frame, where it may end here: its breadth-first order is kept from then on.
+    pub fn close_frame(&mut self, placed: Placed) -> Result<(), ReadError>
+        requires sound { IsSound self.old }
+        requires open { self.old.numbering ≡ None }
+        requires here { IsStructureAt self.old.at placed }
+        requires kind { kind_of self.old.dictionary placed.class ≡ variant.FrEndOfFrame }
+        ensures none { (body : List ℕ) → OnOk result (InEachFile self.old placed body (λ h.
+            first_of frame_end_reasons h ≡ None)) }
         ensures fault { (body : List ℕ) (fault : Fault) → result ≡ Err (ReadError.Fault fault)
-            → InEachFile self.now placed body (λ h. first_of frame_end_reasons h ≡ Some fault) }
+            → InEachFile self.old placed body (λ h. first_of frame_end_reasons h ≡ Some fault) }
         ensures no_device { result ≡ Err ReadError.Device → ⊥ }
-        ensures order { IfOk result (IsBreadthOrder (graph_of self.now.plans self.now.segment)) }
-        ensures few { OnOk result (self.now.frames < frames_limit) }
+        ensures order { OnOk result (HasOrder (graph_of self.old.plans self.old.segment) self.new.numbering) }
+        ensures few { OnOk result (self.old.frames < frames_limit) }
+        ensures rest { self.new ≡ record self.old {
+          links = self.new.links;
+          numbering = self.new.numbering;
+        } }
     {
         if !self.header {
             return Err(self.fault(Reason::NoFrameH).into());
         }
-        let numbering = match self.segment.close(alloc, &self.plans) {
-            Ok(numbering) => numbering,
+        // Judged while the frame is open, and told after its loose link.
+        let later = self.place_fault(placed);
+        self.segment.read_links(&self.plans, &mut self.links)?;
+        match self.numbering.close(&self.segment, &mut self.links) {
+            Ok(()) => {}
             Err(CloseFault::LooseLink { node, link }) => {
                 return Err(self.loose_fault(node, link).into());
             }
             Err(CloseFault::NoMemory) => return Err(ReadError::NoMemory),
-        };
-        if let Some(fault) = self.place_fault(placed) {
+        }
+        if let Some(fault) = later {
             return Err(fault.into());
         }
         if self.frames >= FRAMES_LIMIT {
             return Err(self.fault(Reason::FramesLimit).into());
         }
-        Ok(numbering)
+        Ok(())
     }
 
     /// The fault of the frame's first loose link.
-    fn loose_fault(&self, node: u32, link: u32) -> Fault
+    fn loose_fault(&self, node: u32, link: u64) -> Fault
         requires sound { IsSound self.now }
         requires open { self.now.numbering ≡ None }
         requires loose { first_loose self.now.plans self.now.segment ≡ Some (node, link) }
@@ -82,7 +87,7 @@ impl State {
     {
         let record = self.segment.node(node);
         let field = match self.plans.plan(record.class) {
-            Some(plan) => link_field(plan, self.order(), self.segment.body(node), link.into()),
+            Some(plan) => link_field(plan, self.order(), self.segment.body(node), link),
             None => unreachable!(),
         };
         Fault {

@@ -2,6 +2,7 @@
 #![tactic(auto)]
 
 mod cursor;
+mod ended;
 mod entries;
 mod frame;
 mod item;

@@ -198,7 +198,7 @@ impl ItemReader {
         ensures lifted { result ≡ self.old.segment }
         ensures rest { self.new ≡ record self.old { segment = empty; numbering = None; body = [] } }
     {
-        self.cursor.state.numbering = None;
+        self.cursor.state.numbering.forget();
         replace(&mut self.cursor.state.segment, empty)
     }
 
@@ -261,7 +261,7 @@ impl ItemReader {
     pub fn numbering(&self) -> Option<&Numbering>
         ensures { option_copied result ≡ self.now.numbering }
     {
-        self.cursor.state.numbering.as_ref()
+        self.cursor.state.numbering.numbering()
     }
 
     /// The body of the last structure. Empty before the first item, after an entry, after a contents table

@@ -6,9 +6,10 @@ ghost use Rattle.link_graph.specs.Collected.{nothing_in};
 ghost use Rattle.file_grammar.specs.Item.{nothing_yet};
 ghost use Rattle.item_reader.specs.State.{IsSound, before_of};
 
+use crate::ended::EndedOrder;
 use crate::roles::Classes;
 use layout_plan::{Plan, Plans, element_plan, structure_plan};
-use link_graph::{Numbering, Segment};
+use link_graph::{FrameLinks, Segment};
 use scalar_types::Order;
 use std::alloc::{AllocError, Global};
 
@@ -30,8 +31,10 @@ pub struct State {
     pub built_in: BuiltIn,
     /// The frame that is open, or, where there is a numbering, the one that has just ended.
     pub segment: Segment,
+    /// Room for the links of a frame's records.
+    pub links: FrameLinks,
     /// The breadth-first order of the frame that has just ended.
-    pub numbering: Option<Numbering>,
+    pub numbering: EndedOrder,
     /// Whether the open frame has a FrameH.
     pub header: bool,
     /// The weights of the open frame's records together.
@@ -63,7 +66,8 @@ impl State {
                 element: element_plan(alloc)?,
             },
             segment: Segment::new(alloc, order),
-            numbering: None,
+            links: FrameLinks::new(alloc),
+            numbering: EndedOrder::new(alloc),
             header: false,
             load: 0,
             frames: 0,
@@ -90,7 +94,7 @@ impl State {
         ensures order { self.new.segment.order ≡ self.old.segment.order }
     {
         if self.numbering.is_some() {
-            self.numbering = None;
+            self.numbering.forget();
             self.segment.clear();
         }
     }

@@ -25,7 +25,7 @@ use crate::structure::Placed;
 use dictionary::{AddFault, Entry};
 use file_grammar::{Kind, Reason};
 use link_graph::{Node, SegmentFault};
-use std::alloc::{AllocError, Global};
+use std::alloc::AllocError;
 
 impl State {
     /// Takes an FrSH with the run of FrSEs after it, which end at `end`. Of an entry with more elements than
@@ -166,7 +166,7 @@ impl State {
     }
 
     /// Takes the end record of a frame, whose body is pending.
-    pub fn take_frame_end(&mut self, alloc: Global, placed: Placed) -> Result<Item, ReadError>
+    pub fn take_frame_end(&mut self, placed: Placed) -> Result<Item, ReadError>
         requires sound { IsSound self.old }
         requires open { self.old.closed ≡ false }
         requires frame { self.old.numbering ≡ None }
@@ -184,9 +184,8 @@ impl State {
         ensures no_entry { IfOk result (λ item. IsEntry item → ⊥) }
     {
         self.weigh(placed)?;
-        let numbering = self.close_frame(alloc, placed)?;
+        self.close_frame(placed)?;
         self.segment.set_end(node(&self.dictionary, placed));
-        self.numbering = Some(numbering);
         self.header = false;
         self.load = 0;
         self.frames += 1;

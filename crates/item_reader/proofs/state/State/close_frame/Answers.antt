@@ -1,7 +1,9 @@
-use Rattle.std.proofs.Common.{◌≡◌, ◌++◌, ◌∷◌, [], ℕ, List, Some, None, true, sym, ap, ◌∙◌}
+use Rattle.std.proofs.Common.{◌≡◌, ◌++◌, ◌∷◌, [], ℕ, List, Some, None, true, sym, ap, ◌∙◌, subst, length}
+use Rattle.std.proofs.lemmas.List.{length-map}
+use Rattle.type_text.specs.declared.types.Link.{Link}
 use Rattle.file_grammar.specs.declared.reason.Reason.TheVariants.{FramesLimit}
 use Rattle.file_grammar.specs.declared.kind.Kind.TheVariants.{FrEndOfFrame}
-use Rattle.link_graph.specs.Graph.{first_loose as first_loose_of}
+use Rattle.link_graph.specs.Graph.{links_of, first_loose as first_loose_of}
 use Rattle.file_grammar.specs.Kind.{kind_of, is_end_kind}
 use Rattle.file_grammar.specs.Fault.{kind, first_of}
 use Rattle.file_grammar.specs.Record.{first_loose}
@@ -32,36 +34,45 @@ linked-end s sound unended header linked p kind_is body file stands =
           ∙ none-loose s.plans s.segment.order s.dictionary s.segment.nodes sound.plans linked),
     )
 
-pub close-requires : goal.close-requires
-close-requires c =
+pub read_links-requires : goal.read_links-requires
+read_links-requires c =
     let s = c.args.self.now in
     all-read s.plans s.segment.order s.dictionary s.segment.nodes c.requires.sound.plans
     c.requires.sound.nodes
+
+pub close-requires : goal.close-requires
+close-requires c =
+    let s = c.args.self.now in
+    ap (λ (rows : List (List Link)). length rows) c.in_ok-read_links.ensures
+    ∙ length-map s.segment.nodes (links_of s.plans s.segment.order)
 
 pub returns-in-Some-clause-fault : goal.returns-in-Some-clause-fault
 returns-in-Some-clause-fault c = λ body fault is file stands.
     let s = c.args.self.now in
     let h = here_in s file in
-    let end = linked-end s c.requires.sound c.requires.«open» c.if-not-self.false c.in-Ok.ensures.linked
-    c.args.placed c.requires.kind body file stands in
+    let end = linked-end s c.requires.sound c.requires.«open» c.if-not-self.false
+    (c.in-Ok.ensures.linked s.plans c.in_ok-read_links.ensures) c.args.placed c.requires.kind body file stands in
     let same : c.in-Some.fault ≡ fault = cc in
-    end-misplaced h fault end.1 (c.in-Some.ensures.fault body file stands ∙ ap Some same)
+    end-misplaced h fault end.1
+    (c.place_fault-later.ensures.fault body file stands ∙ c.in-Some.is ∙ ap Some same)
 
 pub returns-then-self-ge-FRAMES_LIMIT-clause-fault :
     goal.returns-then-self-ge-FRAMES_LIMIT-clause-fault
 returns-then-self-ge-FRAMES_LIMIT-clause-fault c = λ body fault is file stands.
     let s = c.args.self.now in
     let h = here_in s file in
-    let end = linked-end s c.requires.sound c.requires.«open» c.if-not-self.false c.in-Ok.ensures.linked
-    c.args.placed c.requires.kind body file stands in
+    let end = linked-end s c.requires.sound c.requires.«open» c.if-not-self.false
+    (c.in-Ok.ensures.linked s.plans c.in_ok-read_links.ensures) c.args.placed c.requires.kind body file stands in
     let same : c.fault-then-self-ge-FRAMES_LIMIT.result ≡ fault = cc in
-    end-full h end.0 end.1 (c.in_default.ensures.fault body file stands) c.if-self-ge-FRAMES_LIMIT.true
+    end-full h end.0 end.1 (c.place_fault-later.ensures.fault body file stands ∙ c.in_default.is)
+    c.if-self-ge-FRAMES_LIMIT.true
     ∙ ap Some (sym c.fault-then-self-ge-FRAMES_LIMIT.ensures ∙ same)
 
 pub returns-clause-none : goal.returns-clause-none
 returns-clause-none c = λ body file stands.
     let s = c.args.self.now in
     let h = here_in s file in
-    let end = linked-end s c.requires.sound c.requires.«open» c.if-not-self.false c.in-Ok.ensures.linked
-    c.args.placed c.requires.kind body file stands in
-    end-stands h end.0 end.1 (c.in_default.ensures.fault body file stands) c.if-self-ge-FRAMES_LIMIT.false
+    let end = linked-end s c.requires.sound c.requires.«open» c.if-not-self.false
+    (c.in-Ok.ensures.linked s.plans c.in_ok-read_links.ensures) c.args.placed c.requires.kind body file stands in
+    end-stands h end.0 end.1 (c.place_fault-later.ensures.fault body file stands ∙ c.in_default.is)
+    c.if-self-ge-FRAMES_LIMIT.false

@@ -35,10 +35,9 @@ link_field-field-requires c =
     let l = loose s c.requires.sound c.args.node c.args.link c.requires.loose in
     let h = holds-loose s.segment.order s.dictionary s.segment.nodes c.args.node c.args.link node body
     c.requires.sound.nodes l c.node-record.ensures c.body.ensures.body in
-    subst (λ o. HasLink o fields body c.into.result) (sym c.order.ensures)
-    (subst (HasLink s.segment.order fields body) (sym c.into.ensures)
+    subst (λ o. HasLink o fields body c.args.link) (sym c.order.ensures)
     (loose-link s.segment.order s.dictionary _ node body c.args.link fields h
-    (sym (c.in-Some.ensures ∙ c.requires.sound.plans node.class))))
+    (sym (c.in-Some.ensures ∙ c.requires.sound.plans node.class)))
 
 pub unreachable-requires : goal.unreachable-requires
 unreachable-requires c =
@@ -60,7 +59,7 @@ returns-clause-place c =
     let h = holds-loose s.segment.order s.dictionary s.segment.nodes c.args.node c.args.link node body
     c.requires.sound.nodes l c.node-record.ensures c.body.ensures.body in
     let placed = subst (λ o. HasLinkIn o fields body c.args.link field) c.order.ensures
-    (subst (λ k. HasLinkIn c.order.result fields body k field) c.into.ensures c.link_field-field.ensures) in
+    c.link_field-field.ensures in
     subst (λ frame. first_loose_of s.segment.order s.dictionary frame frame ≡ Some (node.at, field))
     (sym (ap (λ numbers. open_records numbers s.segment) c.requires.«open»))
     (loose-field s.segment.order s.dictionary _ node body c.args.link fields field h
