@@ -77,7 +77,7 @@ list-class held plans layouts kind list are some =
 -- ---- the next channel
 
 -- the elements of a channel are those by which its layout is found
-channel-elements : (held : List Entry) (s : Collected) (kind : Kind) (n : ℕ) (list : ListLayout)
+pub channel-elements : (held : List Entry) (s : Collected) (kind : Kind) (n : ℕ) (list : ListLayout)
     (at : IsNamedRecord held s (structure_of kind) n) (layout : IsListOf held kind list)
     → layout.elements ≡ at.record_of.read.entry.elements
 channel-elements held s kind n list at layout =

@@ -20,6 +20,8 @@ pub mod ChannelLinks
 pub mod ChannelNames
 pub mod AddedChannels
 pub mod ChannelWalk
+pub mod NamedChannels
+pub mod HeadFields
 pub mod ShortNames
 pub mod ItemLemmas
 pub mod SpanLemmas

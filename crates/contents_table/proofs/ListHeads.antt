@@ -66,7 +66,7 @@ field-printed passes name es =
     by None = refl
     by (Some p) = refl
 
-head-printed : (name : List ℕ) (es : List Element) → head_field name (map printed_element es) ≡ head_field name es
+pub head-printed : (name : List ℕ) (es : List Element) → head_field name (map printed_element es) ≡ head_field name es
 head-printed name es = position-map (is_single (is_link_to name)) printed_element es
 
 -- the elements of a record's label

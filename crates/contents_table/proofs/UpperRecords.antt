@@ -61,6 +61,16 @@ header-layout held plans layouts s are reads =
     header-is held plans s (plans-of held plans layouts are) reads
     ∙ ap (λ (l : ChannelLayouts). option_and_then (first_of_class s) l.frame_header) (sym are.layouts_are)
 
+pub header-named : (held : List Entry) (plans : Layouts) (layouts : ChannelLayouts) (s : Collected) (class : ℕ)
+    (found : Option ℕ) → AreOf held plans layouts → layouts.frame_header ≡ Some class → found ≡ first_of_class s class
+    → IfSome found (IsNamed held s frame_header)
+header-named held plans layouts s class None are layout found = tt
+header-named held plans layouts s class (Some n) are layout found =
+    class-name held s frame_header class n (ap (λ (l : ChannelLayouts). l.frame_header) (sym are.layouts_are) ∙ layout)
+    (let first = position-found (λ (r : Bodied). r.node.class == class) s.nodes n (sym found) in
+    subst (λ o. IsSomeAnd o (λ (r : Bodied). r.node.class ≡ class)) (sym first.is)
+    (eqb-true first.element.node.class class first.passes))
+
 -- a record is the first FrameH
 pub record IsHeader (held : List Entry) (s : Collected) (n : ℕ) : Type 0 where
   pub is : header_of (frame_of held s) ≡ Some n
@@ -71,11 +81,7 @@ pub header-at : (held : List Entry) (plans : Layouts) (layouts : ChannelLayouts)
     → Some n ≡ first_of_class s class → IsHeader held s n
 header-at held plans layouts s class n are reads layout found = record {
   is = header-layout held plans layouts s are reads ∙ ap (option_and_then (first_of_class s)) layout ∙ sym found;
-  named = class-name held s frame_header class n
-      (ap (λ (l : ChannelLayouts). l.frame_header) (sym are.layouts_are) ∙ layout)
-      (let first = position-found (λ (r : Bodied). r.node.class == class) s.nodes n (sym found) in
-      subst (λ o. IsSomeAnd o (λ (r : Bodied). r.node.class ≡ class)) (sym first.is)
-      (eqb-true first.element.node.class class first.passes));
+  named = header-named held plans layouts s class (Some n) are layout found;
 }
 
 -- ---- the upper record

@@ -1,8 +1,8 @@
 -- The channels of a frame (LIGO-T970130 v8: FrAdcData and FrSerData under FrRawData, FrProcData and FrSimData under
 -- FrameH, each a list linked by `next`).
 use Rattle.std.specs.Prelude.{ℕ, zero, suc, Bool, true, false, if◌then◌else◌, List, [], ◌∷◌, length, take, codes}
-use Rattle.std.specs.Prelude.{position, slice_get, Option, Some, None, option_and_then, filter_map}
-use Rattle.std.specs.Option.{option_map}
+use Rattle.std.specs.Prelude.{position, slice_get, Option, Some, None, option_and_then, filter_map, find}
+use Rattle.std.specs.Option.{option_map, option_map_or}
 use Rattle.std.specs.Str.{bytes_eq}
 use Rattle.type_text.specs.declared.types.Base.{Base}
 use Rattle.type_text.specs.declared.types.Base.TheVariants.{Ptr, Str}
@@ -142,3 +142,13 @@ named_channel f k = option_map (λ name. (name, k)) (name_of (label_at f k))
 -- the names of a kind's channels in the order of the walk, each with the number of its record
 abbrev pub named_channels : Frame → Kind → List (List ℕ × ℕ)
 named_channels f kind = filter_map (named_channel f) (channels f kind)
+
+-- whether the label has this name
+abbrev pub has_name : List ℕ → Label → Bool
+has_name name label = option_map_or (λ own. bytes_eq name own) (name_of label) false
+
+-- the channel of a name: the first that has it
+abbrev pub channel_named : Frame → Kind → List ℕ → Option ℕ
+channel_named f kind name =
+    option_map (λ (c : List ℕ × ℕ). c.1)
+    (find (λ (c : List ℕ × ℕ). bytes_eq name c.0) (named_channels f kind))

@@ -1,5 +1,6 @@
 -- Where the layouts of a dictionary have the links to channels, and the names of channels: found once for all frames.
-use Rattle.std.specs.Prelude.{◌≡◌, ℕ, if◌then◌else◌, List, Option, Some, IfSome, IsSomeAnd, option_and_then, slice_get}
+use Rattle.std.specs.Prelude.{◌≡◌, ℕ, if◌then◌else◌, List, Option, Some, IfSome, IsSome, IsSomeAnd, All}
+use Rattle.std.specs.Prelude.{option_and_then, slice_get}
 use Rattle.std.specs.Option.{option_map}
 use Rattle.dictionary.specs.declared.entries.Element.{Element}
 use Rattle.dictionary.specs.declared.entries.Entry.{Entry}
@@ -7,15 +8,16 @@ use Rattle.dictionary.specs.Dictionary.{entry_of, class_named, IsDictionary}
 use Rattle.layout_plan.specs.Plans.{plan_of}
 use Rattle.layout_plan.specs.Lent.{IsLinkField}
 use Rattle.link_graph.specs.Collected.{Bodied, Collected}
-use Rattle.link_graph.specs.Graph.{Layouts}
+use Rattle.link_graph.specs.Graph.{Layouts, ReadsBy}
 use Rattle.file_grammar.specs.Record.{layout_in}
+use Rattle.frame_content.specs.Frames.{frame_of, label_at}
 use Rattle.contents_table.specs.declared.kind.Kind.{Kind}
 use Rattle.contents_table.specs.declared.kind.Kind.TheVariants.{Adc, Proc, Sim, Ser}
 use Rattle.contents_table.specs.declared.layouts.Head.{Head}
 use Rattle.contents_table.specs.declared.layouts.ListLayout.{ListLayout}
 use Rattle.contents_table.specs.declared.layouts.ChannelLayouts.{ChannelLayouts}
 use Rattle.contents_table.specs.Channels.{structure_of, is_under_raw_data, frame_header, raw_data}
-use Rattle.contents_table.specs.Channels.{head_field, next_field, name_field}
+use Rattle.contents_table.specs.Channels.{head_field, next_field, name_field, head, upper, first_channel}
 
 -- the elements of the structure of a name
 abbrev pub elements_named : List Entry → List ℕ → Option (List Element)
@@ -81,3 +83,33 @@ IsOfClass s class n = IsSomeAnd (slice_get s.nodes n) (λ (r : Bodied). r.node.c
 abbrev pub IsNamed : List Entry → Collected → List ℕ → ℕ → Type 0
 IsNamed held s name n =
     IsSomeAnd (slice_get s.nodes n) (λ (r : Bodied). class_named held name ≡ Some r.node.class)
+
+-- Record k is a channel of a kind, and record n the one under which these are.
+pub record IsUnder (held : List Entry) (plans : Layouts) (layouts : ChannelLayouts) (s : Collected) (kind : Kind)
+    (n k : ℕ) : Type 0 where
+  pub are : AreOf held plans layouts
+  pub reads : All (ReadsBy plans s.order) s.nodes
+  pub upper_is : upper (frame_of held s) kind ≡ Some n
+  pub upper_named : IsNamed held s (upper_of kind) n
+  pub first : IsSome (first_channel (frame_of held s) kind)
+  pub named : IsNamed held s (structure_of kind) k
+
+-- Record m is the FrRawData to which record n, the FrameH, leads.
+pub record IsRawData (held : List Entry) (plans : Layouts) (layouts : ChannelLayouts) (s : Collected)
+    (n m : ℕ) : Type 0 where
+  pub are : AreOf held plans layouts
+  pub reads : All (ReadsBy plans s.order) s.nodes
+  pub named : IsNamed held s frame_header n
+  pub leads : head (frame_of held s) raw_data n ≡ Some m
+
+-- This field of record n is the first plain link whose type names a structure.
+pub record IsHeadField (held : List Entry) (plans : Layouts) (s : Collected) (name : List ℕ) (n field : ℕ) : Type 0
+  where
+    pub field_is : head_field name (label_at (frame_of held s) n).entry.elements ≡ Some field
+    pub plain : HasPlainLink plans s n field
+
+-- The plain link `next` of record k is this field, where it has one.
+pub record IsNextField (held : List Entry) (plans : Layouts) (s : Collected) (k : ℕ) (field : Option ℕ) : Type 0
+  where
+    pub field_is : field ≡ next_field (label_at (frame_of held s) k).entry.elements
+    pub plain : IfSome field (HasPlainLink plans s k)

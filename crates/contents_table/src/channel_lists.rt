@@ -8,11 +8,12 @@ ghost use Rattle.layout_plan.specs.declared.fields.Form.{Form};
 ghost use Rattle.layout_plan.specs.Body.{HasBody};
 ghost use Rattle.layout_plan.specs.Lent.{IsSingleField, IsTextField, IsLinkField, HasTextAt, HasPlainLinkAt};
 ghost use Rattle.layout_plan.specs.Plans.{plan_of};
-ghost use Rattle.link_graph.specs.Graph.{ReadsBy};
+ghost use Rattle.link_graph.specs.Graph.{Layouts, ReadsBy};
 ghost use Rattle.file_grammar.specs.Record.{layout_in};
 ghost use Rattle.frame_content.specs.Frames.{frame_of, label_at};
 ghost use Rattle.contents_table.specs.Channels.{channels, name_of, structure_of, upper, target};
-ghost use Rattle.contents_table.specs.Channels.{first_channel, next_channel};
+ghost use Rattle.contents_table.specs.Channels.{first_channel, next_channel, channel_named, has_name};
+ghost use Rattle.contents_table.specs.Channels.{frame_header, header_of};
 ghost use Rattle.contents_table.specs.Layouts.{AreOf, list_in, upper_of, HasPlainLink, IsNamed, IsOfClass};
 
 use crate::kind::Kind;
@@ -86,6 +87,59 @@ pub fn channel_name<'a>(
     single_text(plan, segment.order(), segment.body(node), field)
 }
 
+/// The channel of a name: the number of the first record among the channels of a kind whose name it is. None where no
+/// channel of the frame has it.
+///
+/// Every body reads by the plans. The answer is that of the definition where the plans and the layouts are
+/// those of one dictionary. The time is linear in the records of the frame, and in the bytes of the bodies
+/// walked over.
+pub fn channel_named(
+    alloc: Global,
+    segment: &Segment,
+    plans: &Plans,
+    layouts: &ChannelLayouts,
+    kind: Kind,
+    name: &[u8],
+) -> Result<Option<u32>, AllocError>
+    requires bodies { All (ReadsBy plans.now segment.now.order) segment.now.nodes }
+    ensures channel { IfOk result (λ found. (held : List Entry) → AreOf held plans.now layouts.now
+        → found ≡ channel_named (frame_of held segment.now) kind name.now) }
+    ensures named { IfOk result (λ found. (held : List Entry) → AreOf held plans.now layouts.now
+        → IfSome found (IsNamed held segment.now (structure_of kind))) }
+    ensures first { IfOk result (λ found. (held : List Entry) → AreOf held plans.now layouts.now
+        → IsSome found → IsSome (first_channel (frame_of held segment.now) kind)) }
+    ensures within { IfOk result (λ found. IfSome found (λ n. n < length segment.now.nodes)) }
+{
+    let nodes = channels(alloc, segment, plans, layouts, kind)?;
+    for node in nodes.as_slice() {
+        if has_name(segment, plans, layouts, kind, *node, name) {
+            return Ok(Some(*node));
+        }
+    }
+    Ok(None)
+}
+
+/// Whether a channel has this name.
+fn has_name(
+    segment: &Segment,
+    plans: &Plans,
+    layouts: &ChannelLayouts,
+    kind: Kind,
+    node: u32,
+    name: &[u8],
+) -> bool
+    requires node { node < length segment.now.nodes }
+    requires bodies { All (ReadsBy plans.now segment.now.order) segment.now.nodes }
+    ensures { (held : List Entry) → AreOf held plans.now layouts.now
+        → Contains (channels (frame_of held segment.now) kind) node
+        → result ≡ has_name name.now (label_at (frame_of held segment.now) node) }
+{
+    match channel_name(segment, plans, layouts, kind, node) {
+        Some(own) => name == own,
+        None => false,
+    }
+}
+
 /// The text of a field, where that is one without dimension.
 fn single_text<'a>(plan: &Plan, order: Order, body: &'a [u8], field: u32) -> Option<&'a [u8]>
     requires { HasBody order plan.now body.now }
@@ -130,8 +184,26 @@ fn first_channel(
     target(segment, plans, upper, list.head)
 }
 
-/// The record under which the channels of a kind are.
-fn upper_record(
+/// The record that describes the whole frame.
+///
+/// The answer is that of the definition where every body reads by the plans, and the plans and the layouts are
+/// those of one dictionary. Takes no memory.
+pub fn header_record(segment: &Segment, layouts: &ChannelLayouts) -> Option<u32>
+    ensures header { (held : List Entry) (plans : Layouts) → AreOf held plans layouts.now
+        → All (ReadsBy plans segment.now.order) segment.now.nodes
+        → result ≡ header_of (frame_of held segment.now) }
+    ensures named { (held : List Entry) (plans : Layouts) → AreOf held plans layouts.now
+        → IfSome result (IsNamed held segment.now frame_header) }
+    ensures within { IfSome result (λ n. n < length segment.now.nodes) }
+{
+    header(segment, layouts.frame_header?)
+}
+
+/// The record under which the channels of a kind are: FrameH, or the FrRawData to which it leads.
+///
+/// Every body reads by the plans. The answer is that of the definition where the plans and the layouts are
+/// those of one dictionary. Takes no memory.
+pub fn upper_record(
     segment: &Segment,
     plans: &Plans,
     layouts: &ChannelLayouts,

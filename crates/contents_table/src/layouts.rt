@@ -1,10 +1,14 @@
 //! Where the layouts of a dictionary have the links to channels, and the names of channels.
 
-ghost use Rattle.std.specs.Prelude.{◌≡◌, ◌≤◌, length, IfSome};
+ghost use Rattle.std.specs.Prelude.{◌≡◌, ◌≤◌, ℕ, List, length, IfSome, IsSomeAnd};
 ghost use Rattle.std.specs.Option.{option_map};
+ghost use Rattle.dictionary.specs.declared.entries.Entry.{Entry};
 ghost use Rattle.dictionary.specs.Dictionary.{IsDictionary};
+ghost use Rattle.link_graph.specs.Collected.{Collected};
+ghost use Rattle.link_graph.specs.Graph.{Layouts};
 ghost use Rattle.contents_table.specs.Layouts.{layouts_of, list_of, list_in, head_in, elements_named};
-ghost use Rattle.contents_table.specs.Channels.{head_field, next_field, name_field};
+ghost use Rattle.contents_table.specs.Layouts.{IsUnder, IsRawData, IsHeadField, IsNextField};
+ghost use Rattle.contents_table.specs.Channels.{head_field, next_field, name_field, structure_of, raw_data};
 
 use crate::kind::Kind;
 use dictionary::{Dictionary, Element, first_named};
@@ -59,6 +63,32 @@ impl ChannelLayouts {
             sim: list_of(dictionary, Kind::Sim),
             ser: list_of(dictionary, Kind::Ser),
         }
+    }
+
+    /// The field of the record above a kind's channels that is the head of their list.
+    pub fn head_field(&self, kind: Kind) -> Option<u32>
+        ensures { (held : List Entry) (plans : Layouts) (s : Collected) (n k : ℕ)
+            → IsUnder held plans self.now s kind n k
+            → IsSomeAnd result (IsHeadField held plans s (structure_of kind) n) }
+    {
+        Some(self.list(kind)?.head.field)
+    }
+
+    /// The field of a kind's channels that is the link to the next one.
+    pub fn next_field(&self, kind: Kind) -> Option<u32>
+        ensures { (held : List Entry) (plans : Layouts) (s : Collected) (n k : ℕ)
+            → IsUnder held plans self.now s kind n k → IsNextField held plans s k result }
+    {
+        self.list(kind)?.next
+    }
+
+    /// The field of FrameH that is the link to FrRawData.
+    pub fn raw_data_field(&self) -> Option<u32>
+        ensures { (held : List Entry) (plans : Layouts) (s : Collected) (n m : ℕ)
+            → IsRawData held plans self.now s n m
+            → IsSomeAnd result (IsHeadField held plans s raw_data n) }
+    {
+        Some(self.raw_data?.field)
     }
 
     /// That of a kind.

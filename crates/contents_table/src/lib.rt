@@ -18,7 +18,7 @@ mod view;
 mod writing;
 
 pub use builder::TableBuilder;
-pub use channel_lists::{channel_name, channels};
+pub use channel_lists::{channel_name, channel_named, channels, header_record, upper_record};
 pub use fit::TableLayout;
 pub use kind::Kind;
 pub use layouts::ChannelLayouts;
