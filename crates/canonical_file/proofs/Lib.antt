@@ -15,7 +15,7 @@ pub mod BareFrames
 pub mod UsedEntries
 pub mod UsedFrames
 pub mod UsedSplices
-mod Sample
+pub mod Sample
 mod Examples
 mod ExampleFrame
 mod ExampleFrames

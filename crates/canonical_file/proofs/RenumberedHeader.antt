@@ -97,7 +97,7 @@ header-in_order f s one = position-map is_frame_header (row_in f s) s ∙ by (he
 
 -- ---- the record above a kind's channels, and the first of them
 
-upper-in_order : (f : Frame) (s : List ℕ) → IsBreadthOrder (frame_graph f).graph s → HasOneHeader f → (kind : Kind)
+pub upper-in_order : (f : Frame) (s : List ℕ) → IsBreadthOrder (frame_graph f).graph s → HasOneHeader f → (kind : Kind)
     → upper (ordered f s) kind ≡ renumbered s (upper f kind)
 upper-in_order f s o one kind =
     ap (λ found. cond (is_under_raw_data kind) (option_and_then (head (ordered f s) raw_data) found) found)
@@ -110,7 +110,7 @@ upper-in_order f s o one kind =
     by true = head-in_order f s o raw_data (header_of f) (header-in f s o one)
     by false = refl
 
-upper-in : (f : Frame) (s : List ℕ) → IsBreadthOrder (frame_graph f).graph s → HasOneHeader f → (kind : Kind)
+pub upper-in : (f : Frame) (s : List ℕ) → IsBreadthOrder (frame_graph f).graph s → HasOneHeader f → (kind : Kind)
     → AreIn s (upper f kind)
 upper-in f s o one kind = by (is_under_raw_data kind)
   where

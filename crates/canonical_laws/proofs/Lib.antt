@@ -8,6 +8,7 @@ pub mod SourceEntries
 pub mod DictionarySteps
 pub mod SourceRecords
 pub mod SourceFrames
+pub mod SourceRows
 pub mod SourceOrders
 pub mod Holding
 pub mod WrittenEntries

@@ -88,7 +88,7 @@ header-row : (r : Row) → is_frame_header r ≡ true → kind_named r.label.ent
 header-row r is = named-header r.label.entry.name (turned (codes "FrameH") r.label.entry.name
     (ap (λ m. bytes_eq m m) (sym ((bytes_eq-Decides (codes "FrameH") r.label.entry.name).0 is))) is)
 
-row-header : (r : Row) → kind_named r.label.entry.name ≡ FrameH → is_frame_header r ≡ true
+pub row-header : (r : Row) → kind_named r.label.entry.name ≡ FrameH → is_frame_header r ≡ true
 row-header r is = turned r.label.entry.name (codes "FrameH") refl (header-named r.label.entry.name is)
 
 -- ---- roots and links

@@ -46,7 +46,8 @@ use Rattle.canonical_laws.proofs.RootsInOrder.{roots-in-order}
 use Rattle.canonical_laws.proofs.DictionarySteps.{StaysIn}
 use Rattle.canonical_laws.proofs.SourceRecords.{canonical_length, new-size, new-writable, is-layout}
 use Rattle.canonical_laws.proofs.SourceRecords.{source-fits, ready-plain, ready-linked}
-use Rattle.canonical_laws.proofs.SourceFrames.{IsSourceFrame, source-linked, header-root}
+use Rattle.canonical_laws.proofs.SourceFrames.{IsSourceFrame}
+use Rattle.canonical_laws.proofs.SourceRows.{AreSourceRows, rows-linked}
 
 -- ---- sums over an order
 
@@ -61,7 +62,7 @@ at-least : (c : ℕ) (g : ℕ → ℕ) (xs : List ℕ) → AllByRecursion (λ x.
 at-least c g [] all = omega arith
 at-least c g (x ∷ xs) all = omega (arith, all.0, at-least c g xs all.1, sum_by-cons g x xs)
 
-module _ (order : Order) (held : List Entry) (f : Frame) (s : List ℕ) (source : IsSourceFrame order held f)
+module _ (order : Order) (held : List Entry) (f : Frame) (s : List ℕ) (source : AreSourceRows order held f)
     (breadth : IsBreadthOrder (frame_graph f).graph s) where
   abbrev o : Frame
   o = ordered f s
@@ -70,7 +71,7 @@ module _ (order : Order) (held : List Entry) (f : Frame) (s : List ℕ) (source 
   n = length f.rows
 
   member : (x : ℕ) → has s x ≡ true → x < n
-  member = member-within f s breadth (source-linked f source)
+  member = member-within f s breadth (rows-linked f source)
 
   at : (k : ℕ) → k < length s → get_or s k 0 < n
   at k less = member (get_or s k 0) (has_at s k 0 less)
@@ -305,8 +306,7 @@ module _ (order : Order) (held : List Entry) (f : Frame) (s : List ℕ) (source 
     where
       reached : has s source.header ≡ true
       reached =
-          let root = slice_get_from_has f.roots source.header
-          (header-root f source source.header source.header_within source.header_is) in
+          let root = slice_get_from_has f.roots source.header source.root in
           has_root (frame_graph f).graph s breadth root.0 source.header root.1
 
       numbered : (k : ℕ) × (place_in s source.header ≡ Some k) → IsWritableFrame (map printed_entry next) o
@@ -321,6 +321,8 @@ module _ (order : Order) (held : List Entry) (f : Frame) (s : List ℕ) (source 
             load = frame-size;
           }
 
-  -- its roots are those that a file gives it
-  pub source-as_read : as_read o ≡ o
-  source-as_read = ap (λ roots. record o { roots = roots }) (sym (roots-in-order f s breadth source.roots))
+-- the roots of a frame of a file, in its order, are those that a file gives it
+pub source-as_read : {order : Order} {held : List Entry} (f : Frame) (s : List ℕ) → IsSourceFrame order held f
+    → IsBreadthOrder (frame_graph f).graph s → as_read (ordered f s) ≡ ordered f s
+source-as_read f s source breadth =
+    ap (λ roots. record (ordered f s) { roots = roots }) (sym (roots-in-order f s breadth source.roots))

@@ -9,7 +9,7 @@ ghost use Rattle.canonical_laws.specs.Laws.{ContentsAreUnique};
 ghost use Rattle.canonical_laws.specs.Laws.{CanonicalFilesAreUnique, CanonicalFilesKeepContents};
 ghost use Rattle.canonical_laws.specs.Laws.{CanonicalFilesTellContents, CanonicalFilesStay, PartsTellFrames};
 ghost use Rattle.canonical_laws.specs.Sources.{EntriesOfFilesAreWritable, FramesOfFilesAreWritable};
-ghost use Rattle.canonical_laws.specs.Sources.{ClosingsOfFilesAreWritable};
+ghost use Rattle.canonical_laws.specs.Sources.{RelinkedFramesAreWritable, ClosingsOfFilesAreWritable};
 ghost use Rattle.canonical_laws.specs.Spliced.{SplicedFramesAreWrittenTogether};
 ghost use Rattle.canonical_laws.specs.Spliced.{NoPartOfASplicedHeadIsWhole, NoPartOfASplicedFileIsWhole};
 ghost use Rattle.canonical_laws.specs.Spliced.{SplicedFilesAreReadBack, FramesOfFilesAreWritableSomewhere};
@@ -22,10 +22,11 @@ pub fn written_files_are_read_back()
 {}
 
 /// What a file of bytes holds can be written: in each beginning of it the entries held and the frames that
-/// have ended, each in its order, and of a well-formed file the closing.
+/// have ended, each in its order, also with other links, and of a well-formed file the closing.
 pub fn sources_can_be_written()
     ensures entries { EntriesOfFilesAreWritable }
     ensures frames { FramesOfFilesAreWritable }
+    ensures relinked { RelinkedFramesAreWritable }
     ensures closings { ClosingsOfFilesAreWritable }
 {}
 
