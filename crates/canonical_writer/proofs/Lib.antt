@@ -23,6 +23,7 @@ pub mod RelinkedValues
 pub mod SegmentOrders
 pub mod SourceRows
 pub mod Standing
+pub mod StandingAlike
 pub mod Structures
 pub mod WriterSteps
 pub mod WrittenRecords

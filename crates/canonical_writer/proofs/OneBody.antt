@@ -121,7 +121,7 @@ plan-links source r is read =
     ∙ links-read order read.fields read.values read.tail r.body read.sound.sound read.body
 
 -- Records with one entry, one body and one instance are alike where their links are written alike.
-rows-alike : (first second : FrameSource) (links others : List Link) (n m k : ℕ) (r s : Bodied)
+pub rows-alike : (first second : FrameSource) (links others : List Link) (n m k : ℕ) (r s : Bodied)
     → IsPlacedAt first links n k → IsPlacedAt second others m k
     → slice_get first.segment.now.nodes n ≡ Some r → slice_get second.segment.now.nodes m ≡ Some s
     → first.segment.now.order ≡ second.segment.now.order → r.body ≡ s.body

@@ -2,6 +2,7 @@ pub mod Errors
 pub mod NewLinks
 pub mod Parts
 pub mod Filled
+pub mod StandingAlike
 pub mod Writer
 pub mod EndOfFile
 pub mod Closed

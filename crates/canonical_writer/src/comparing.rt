@@ -10,11 +10,13 @@ ghost use Rattle.canonical_writer.specs.Alike.{IsWrittenAs, RecordsAreAlike};
 ghost use Rattle.canonical_writer.specs.Filled.{frame_of, IsSource, IsPlacedAt, record_at, last_record};
 ghost use Rattle.canonical_writer.specs.NewLinks.{LeadAlike};
 ghost use Rattle.canonical_writer.specs.Parts.{IsUsableClosing, printed_closing};
+ghost use Rattle.canonical_writer.specs.StandingAlike.{RowsAreAlike, StandAlike};
 ghost use Rattle.canonical_writer.specs.Writer.{none_met};
 
 use crate::frame_part::{FrameSource, are_bytes};
 use crate::instances::NewLinks;
 use crate::records::LinkRoom;
+use crate::same_records::stand_alike;
 use canonical_file::Closing;
 use dictionary::{Dictionary, Element, Entry, same_entry};
 use layout_plan::measure;
@@ -69,21 +71,8 @@ impl FrameComparer {
         if first.order.len() != second.order.len() {
             return Ok(false);
         }
-        self.comparison
-            .first
-            .links
-            .number(first.segment, first.order)?;
-        self.comparison
-            .second
-            .links
-            .number(second.segment, second.order)?;
-        for (k, node) in first.order.iter().enumerate() {
-            if !self
-                .comparison
-                .are_same_records(first, *node, second, second.order[k])?
-            {
-                return Ok(false);
-            }
+        if !self.comparison.have_same_rows(first, second)? {
+            return Ok(false);
         }
         self.comparison.are_same_ends(first, second)
     }
@@ -99,6 +88,77 @@ struct Comparison {
 }
 
 impl Comparison {
+    /// Whether the records of two frames have the same entries, and are written as the same bytes.
+    fn have_same_rows(
+        &mut self,
+        first: &FrameSource<'_>,
+        second: &FrameSource<'_>,
+    ) -> Result<bool, AllocError>
+        requires size { length first.now.order.now ≡ length second.now.order.now }
+        requires first { All (ReadsBy first.now.plans.now first.now.segment.now.order)
+            first.now.segment.now.nodes }
+        requires second { All (ReadsBy second.now.plans.now second.now.segment.now.order)
+            second.now.segment.now.nodes }
+        ensures same { IfOk result (λ same. IsSource first.now → IsSource second.now
+            → AreAlike self.old.met first.now.dictionary.now second.now.dictionary.now
+            → IsTrue same ↔ RowsAreAlike first.now second.now) }
+        ensures alike { AreAlike self.old.met first.now.dictionary.now second.now.dictionary.now
+            → AreAlike self.new.met first.now.dictionary.now second.now.dictionary.now }
+    {
+        if stand_alike(first, second) {
+            return Ok(self.have_same_entries(first, second));
+        }
+        self.have_same_records(first, second)
+    }
+
+    /// Whether the records of frames that stand alike have the same entries.
+    fn have_same_entries(&mut self, first: &FrameSource<'_>, second: &FrameSource<'_>) -> bool
+        requires { StandAlike first.now second.now }
+        ensures same { IsSource first.now → IsSource second.now
+            → AreAlike self.old.met first.now.dictionary.now second.now.dictionary.now
+            → IsTrue result ↔ RowsAreAlike first.now second.now }
+        ensures alike { AreAlike self.old.met first.now.dictionary.now second.now.dictionary.now
+            → AreAlike self.new.met first.now.dictionary.now second.now.dictionary.now }
+    {
+        for node in first.order {
+            if first.segment.len() <= *node {
+                return false;
+            }
+            let class = first.segment.node(*node).class;
+            if !self.have_one_entry(first.dictionary, second.dictionary, class) {
+                return false;
+            }
+        }
+        true
+    }
+
+    /// The same, where every record of both frames is looked at.
+    fn have_same_records(
+        &mut self,
+        first: &FrameSource<'_>,
+        second: &FrameSource<'_>,
+    ) -> Result<bool, AllocError>
+        requires size { length first.now.order.now ≡ length second.now.order.now }
+        requires first { All (ReadsBy first.now.plans.now first.now.segment.now.order)
+            first.now.segment.now.nodes }
+        requires second { All (ReadsBy second.now.plans.now second.now.segment.now.order)
+            second.now.segment.now.nodes }
+        ensures same { IfOk result (λ same. IsSource first.now → IsSource second.now
+            → AreAlike self.old.met first.now.dictionary.now second.now.dictionary.now
+            → IsTrue same ↔ RowsAreAlike first.now second.now) }
+        ensures alike { AreAlike self.old.met first.now.dictionary.now second.now.dictionary.now
+            → AreAlike self.new.met first.now.dictionary.now second.now.dictionary.now }
+    {
+        self.first.links.number(first.segment, first.order)?;
+        self.second.links.number(second.segment, second.order)?;
+        for (k, node) in first.order.iter().enumerate() {
+            if !self.are_same_records(first, *node, second, second.order[k])? {
+                return Ok(false);
+            }
+        }
+        Ok(true)
+    }
+
     /// Whether the records of two numbers have the same entry, and are written as the same bytes.
     fn are_same_records(
         &mut self,

@@ -13,6 +13,7 @@ mod errors;
 mod frame_part;
 mod instances;
 mod records;
+mod same_records;
 mod used;
 mod writer;
 
