@@ -67,7 +67,7 @@ among-append order items more =
 -- ---- orders
 
 -- frames have one list of their orders
-one_order : (fs os ps : List Frame) → AllZip IsInOrder fs os → AllZip IsInOrder fs ps → os ≡ ps
+pub one_order : (fs os ps : List Frame) → AllZip IsInOrder fs os → AllZip IsInOrder fs ps → os ≡ ps
 one_order [] [] [] left right = refl
 one_order [] [] (p ∷ ps) left right = absurd right
 one_order [] (o ∷ os) ps left right = absurd left
@@ -94,7 +94,7 @@ an_order f =
     (in_its_order f found.0, record { order = found.0; breadth = found.1; is = refl })
 
 -- so has each of a list
-some_orders : (fs : List Frame) → (os : List Frame) × AllZip IsInOrder fs os
+pub some_orders : (fs : List Frame) → (os : List Frame) × AllZip IsInOrder fs os
 some_orders [] = ([], tt)
 some_orders (f ∷ fs) =
     let one = an_order f in
@@ -162,29 +162,32 @@ given_before file frames others fault other (inr left) (inr right) =
     let same = items_before_unique file fault other left.is_fault right.is_fault in
     left.frames_are ∙ (λ i. frames_among (same.0 i) (same.1 i)) ∙ sym right.frames_are
 
--- A file gives one list of frames, each in one order, and ends in one way.
+-- A file gives one list of frames, and ends in one way.
+pub given-same : (file : List ℕ) (frames others : List Frame) (ending end : Ending) → Gives file frames ending
+    → Gives file others end → (frames ≡ others) × (ending ≡ end)
+given-same file frames others (Closes closing) (Closes own) left right =
+    let one : Content = record { closing = closing; frames = frames } in
+    let two : Content = record { closing = own; frames = others } in
+    let same : one ≡ two = one_content file one two left right in
+    (ap (λ (c : Content). c.frames) same, ap (λ (c : Content). Closes c.closing) same)
+given-same file frames others (Closes closing) (Breaks fault) left right =
+    absurd (closes_or_breaks file frames others closing fault left right)
+given-same file frames others (Breaks fault) (Closes closing) left right =
+    absurd (closes_or_breaks file others frames closing fault right left)
+given-same file frames others (Breaks fault) (Breaks other) left right = (
+  given_before file frames others fault other left right,
+  ap (λ (fault : Fault). Breaks fault) (faults_unique file fault other (fault_given file frames fault left)
+      (fault_given file others other right)),
+)
+
+-- So the frames are in one order each.
 pub given-once : (file : List ℕ) (frames others ordered also : List Frame) (ending end : Ending)
     → Gives file frames ending → Gives file others end → AllZip IsInOrder frames ordered → AllZip IsInOrder others also
     → (ordered ≡ also) × (ending ≡ end)
-given-once file frames others ordered also (Closes closing) (Closes own) left right in_order also_in =
+given-once file frames others ordered also ending end left right in_order also_in =
+    let same = given-same file frames others ending end left right in
     let R : List Frame → Type 0 = λ fs. AllZip IsInOrder fs ordered in
-    let one : Content = record { closing = closing; frames = frames } in
-    let two : Content = record { closing = own; frames = others } in
-    let same : one ≡ two = one_content file one two left right in (
-      one_order others ordered also (subst R (ap (λ (c : Content). c.frames) same) in_order) also_in,
-      ap (λ (c : Content). Closes c.closing) same,
-    )
-given-once file frames others ordered also (Closes closing) (Breaks fault) left right in_order also_in =
-    absurd (closes_or_breaks file frames others closing fault left right)
-given-once file frames others ordered also (Breaks fault) (Closes closing) left right in_order also_in =
-    absurd (closes_or_breaks file others frames closing fault right left)
-given-once file frames others ordered also (Breaks fault) (Breaks other) left right in_order also_in =
-    let R : List Frame → Type 0 = λ fs. AllZip IsInOrder fs ordered in (
-      one_order others ordered also (subst R (given_before file frames others fault other left right) in_order)
-          also_in,
-      ap (λ (fault : Fault). Breaks fault) (faults_unique file fault other (fault_given file frames fault left)
-          (fault_given file others other right)),
-    )
+    (one_order others ordered also (subst R same.0 in_order) also_in, same.1)
 
 -- Each file gives some frames, each of which has an order, and ends in some way.
 pub each-gives : (file : List ℕ)

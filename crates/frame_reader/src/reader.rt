@@ -1,15 +1,16 @@
 //! The reader of a file's frames.
 
 ghost use Rattle.std.specs.Prelude.{◌≡◌, ◌<◌, ◌≤◌, ℕ, List, [], true, false, None, Some, Ok, Err};
-ghost use Rattle.std.specs.Prelude.{IfOk, IfErr, OnOk, OnErr, IsTrue};
+ghost use Rattle.std.specs.Prelude.{IfOk, IfErr, OnOk, OnErr, IsSome, IsTrue};
 ghost use Rattle.frame_outside.specs.Counts.{Rose};
 ghost use Rattle.frame_outside.specs.Shelf.{Told, IsSource, reading_at};
 ghost use Rattle.frame_outside.specs.SlotReader.{DrawsAtMost};
 ghost use Rattle.structure_source.specs.Source.{GoesOn as Passes, bytes_drawn};
 ghost use Rattle.file_grammar.specs.Structure.{file_limit};
 ghost use Rattle.file_grammar.specs.Fault.{IsHeaderFault};
+ghost use Rattle.link_graph.specs.Collected.{Becomes, nothing_in};
 ghost use Rattle.frame_content.specs.Frames.{Frame};
-ghost use Rattle.item_reader.specs.Reader.{file_of, Reads};
+ghost use Rattle.item_reader.specs.Reader.{file_of, Reads, IsFrameEnd};
 ghost use Rattle.canonical_file.specs.Ranges.{AreBytes};
 ghost use Rattle.canonical_laws.specs.Content.{closing_by};
 ghost use Rattle.canonical_writer.specs.Parts.{IsUsableClosing, printed_closing};
@@ -21,6 +22,7 @@ use contents_table::ChannelLayouts;
 use file_grammar::{Fault, Reason};
 use frame_outside::Shelf;
 use item_reader::{Item, ItemReader, ReadError};
+use link_graph::Segment;
 use std::alloc::Global;
 use std::marker::Model;
 
@@ -96,6 +98,7 @@ impl FrameReader {
             → HasLooked file frames (bytes_drawn self.new.reader.position)) }
         ensures on { IfOk result (λ more. IsTrue more → (self.old.reader.before.place < self.new.reader.before.place)
             × (self.new.reader.before.place ≤ file_limit) × (self.new.reader.before.closed ≡ false)) }
+        ensures last { result ≡ Ok true → (item : Item) → self.new.reader.last ≡ Some item → IsFrameEnd item }
         ensures end { result ≡ Ok false → self.new.reader.before.closed ≡ true }
         ensures end_again { self.old.reader.before.closed ≡ true → (result ≡ Ok false) × (self.new ≡ self.old) }
         ensures no_error { OnOk result (self.new.reader.error ≡ None) }
@@ -124,6 +127,21 @@ impl FrameReader {
         if let Item::Entry { changed: true, .. } = item {
             self.layouts = ChannelLayouts::of(self.items.dictionary());
         }
+    }
+
+    /// Hands out the frame that has ended, with its end record, and keeps `empty` for the next one. Until the next call
+    /// of `next`, the reader lends the empty one, and neither a numbering nor a body. Takes no memory.
+    pub fn lift(&mut self, empty: Segment) -> Segment
+        requires error { self.old.reader.error ≡ None }
+        requires last { (item : Item) → self.old.reader.last ≡ Some item → IsFrameEnd item }
+        requires ended { IsSome self.old.reader.numbering }
+        requires empty { Becomes empty (nothing_in self.old.reader.order) }
+        ensures lifted { result ≡ self.old.reader.segment }
+        ensures rest { self.new ≡ record self.old {
+          reader = record self.old.reader { segment = empty; numbering = None; body = [] };
+        } }
+    {
+        self.items.lift(empty)
     }
 
     /// What the file is closed with, once it has ended.

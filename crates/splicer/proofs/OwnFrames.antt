@@ -79,6 +79,12 @@ records-held dictionary f w =
     all-push (IsOf dictionary) (records_from f 0 f.rows) (end_record f)
     (all-records (IsOf dictionary) f 0 f.rows (λ k less. (w.rows k less).held) (omega arith) refl) w.end.held
 
+-- so a frame of the dictionary does not clash
+pub frame-clear : (dictionary : List Entry) (w : Written) (f : Frame) → IsDictionary dictionary
+    → AreIn dictionary w.entries → IsWritableFrame dictionary f → clash_of None w.entries f ≡ None
+frame-clear dictionary w f sound held writable =
+    no-record-clashes dictionary w.entries (records_of f) sound held (records-held dictionary f writable)
+
 -- ---- one frame after another
 
 -- what stands is never shorter after more frames
@@ -95,7 +101,7 @@ frame-taken dictionary w f sound held writable few short =
     ap (λ (full : Bool). if full then Err error.FramesLimit else clash_or_limit (clash_of None w.entries f) size)
     (lt-leb frames_limit w.frames few)
     ∙ ap (λ (clash : Option ℕ). clash_or_limit clash size)
-    (no-record-clashes dictionary w.entries (records_of f) sound held (records-held dictionary f writable))
+    (frame-clear dictionary w f sound held writable)
     ∙ ap (λ (long : Bool). if long then Err error.OutputLimit else Ok tt) (le-ltb file_limit size short)
 
 -- Frames of one dictionary can be written after these, within the limits.
