@@ -1,6 +1,5 @@
-pub mod AsciiText
+pub mod HexPieces
 pub mod BodyReadings
-pub mod Digits
 pub mod DumpEnds
 pub mod DumpErrors
 pub mod FieldLines
@@ -10,6 +9,7 @@ pub mod GivenLines
 pub mod ListedItems
 pub mod OneDump
 pub mod Pages
+pub mod PlainRuns
 pub mod PrintedItems
 pub mod ReadFiles
 pub mod ShownFields

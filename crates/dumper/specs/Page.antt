@@ -1,6 +1,5 @@
 -- Text on its way to a sink.
 use Rattle.std.specs.Prelude.{◌≡◌, ℕ, List, ◌++◌, take, Result, Ok, Err}
-use Rattle.std.specs.String.{string_bytes}
 use Rattle.frame_outside.specs.Counts.{Rose}
 use Rattle.frame_outside.specs.Sink.{Output, Appends}
 use Rattle.frame_outside.specs.declared.traits.ShelfError.{ShelfError}
@@ -27,7 +26,7 @@ CarriesOrStops old new pending now text (Err NoMemory) = AppendsPrefix old new (
 
 -- the text of a page, which the sink has not got yet
 abbrev pub pending : Page → List ℕ
-pending page = string_bytes page.text
+pending page = page.text.items
 
 -- the text was printed by way of a page
 abbrev pub Prints : {X : Type 0} → Output → Output → Page → Page → List ℕ → Result X ShelfError → Type 0

@@ -1,7 +1,6 @@
 //! The body of a structure, field by field.
 
 ghost use Rattle.std.specs.Prelude.{◌≡◌, ◌++◌, ℕ, List, Some, IsSome, OnOk, codes};
-ghost use Rattle.std.specs.String.{string_bytes};
 ghost use Rattle.std.specs.Option.{option_copied};
 ghost use Rattle.record_values.specs.declared.values.Value.{Value};
 ghost use Rattle.layout_plan.specs.Layout.{layout_of, form_of};
@@ -9,9 +8,7 @@ ghost use Rattle.layout_plan.specs.Body.{HasBody, IsField};
 ghost use Rattle.file_grammar.specs.Record.{Reading, reading_by};
 ghost use Rattle.dumper.specs.Lines.{base_of, body_text, reading_text, field_line};
 ghost use Rattle.dumper.specs.Page.{Prints};
-ghost use Rattle.dumper.specs.Printed.{escaped};
 
-use crate::escapes::push_escaped;
 use crate::page::Page;
 use crate::spans::{field_length, number_in};
 use crate::values::print_value;
@@ -19,15 +16,16 @@ use dictionary::Element;
 use frame_outside::{ShelfError, Sink};
 use layout_plan::{Field, Plan, measure};
 use scalar_types::Order;
-use std::alloc::AllocError;
+use std::mem;
 use type_text::Base;
 
-/// Prints what a body holds by the plan of these elements; or that it is not read, where there is no plan or it does
-/// not spell the layout.
+/// Prints what a body of a class holds by the plan of these elements; or that it is not read, where there is no plan or
+/// it does not spell the layout.
 pub fn print_body<O: Sink>(
     page: &mut Page,
     out: &mut O,
     order: Order,
+    class: u8,
     elements: &[Element],
     plan: Option<&Plan>,
     body: &[u8],
@@ -38,23 +36,29 @@ pub fn print_body<O: Sink>(
 {
     match plan {
         Some(plan) if measure(plan, order, body).is_ok() => {
-            print_fields(page, out, order, elements, plan, body)
+            let mut numbers = mem::replace(&mut page.numbers, Vec::new(page.alloc));
+            let printed = print_fields(page, out, order, class, elements, plan, body, &mut numbers);
+            page.numbers = numbers;
+            printed
         }
         _ => {
-            let composed = page.text.push_str("  unread\n");
+            let composed = page.text.extend_from_slice(b"  unread\n");
             page.settle(out, composed)
         }
     }
 }
 
-/// Prints the fields of a body that spells the layout, and its tail.
+/// Prints the fields of a body that spells the layout, and its tail. The list is for the numbers that the fields are;
+/// what it has before does not matter.
 fn print_fields<O: Sink>(
     page: &mut Page,
     out: &mut O,
     order: Order,
+    class: u8,
     elements: &[Element],
     plan: &Plan,
     body: &[u8],
+    numbers: &mut Vec<u64>,
 ) -> Result<(), ShelfError>
     requires layout { layout_of elements.now ≡ Some plan.now }
     requires reads { HasBody order plan.now body.now }
@@ -62,14 +66,12 @@ fn print_fields<O: Sink>(
         → Prints (O.output out.old) (O.output out.new) page.old page.new (reading_text elements.now reading) result }
 {
     let fields = plan.fields();
-    let Ok(mut numbers) = Vec::with_capacity(page.alloc, fields.len()) else {
-        return Err(ShelfError::NoMemory);
-    };
+    numbers.clear();
     let mut rest = body;
     for (k, field) in fields.iter().enumerate() {
         let length = field_length(order, field, numbers.as_slice(), rest);
         let bytes = &rest[..length];
-        print_field(page, out, order, &elements[k], field, bytes)?;
+        print_field(page, out, order, class, k, &elements[k], field, bytes)?;
         if numbers.push(number_in(order, field, bytes)).is_err() {
             return Err(ShelfError::NoMemory);
         }
@@ -78,15 +80,17 @@ fn print_fields<O: Sink>(
     if rest.is_empty() {
         return Ok(());
     }
-    let composed = page.text.push_str("  tail 4\n");
+    let composed = page.text.extend_from_slice(b"  tail 4\n");
     page.settle(out, composed)
 }
 
-/// Prints a field: its element's name, and its value.
+/// Prints a field, the k-th of its class: its element's name, and its value.
 fn print_field<O: Sink>(
     page: &mut Page,
     out: &mut O,
     order: Order,
+    class: u8,
+    k: usize,
     element: &Element,
     field: &Field,
     bytes: &[u8],
@@ -99,21 +103,12 @@ fn print_field<O: Sink>(
         → IsField order numbers field.now.form field.now.counts v bytes.now
         → Prints (O.output out.old) (O.output out.new) page.old page.new (field_line element.now v) result }
 {
-    let composed = push_begin(&mut page.text, element.name.bytes());
+    let name = element.name.bytes();
+    let composed = page.beginnings.push(&mut page.text, class, k, name);
     page.settle(out, composed)?;
     print_value(page, out, order, base_of(element), field, bytes)?;
-    let composed = page.text.push('\n');
+    let composed = page.text.extend_from_slice(b"\n");
     page.settle(out, composed)
-}
-
-/// Appends what stands before a value.
-fn push_begin(text: &mut String, name: &[u8]) -> Result<(), AllocError>
-    ensures { OnOk result
-        (string_bytes text.new ≡ string_bytes text.old ++ (codes "  " ++ (escaped name.now ++ codes " = "))) }
-{
-    text.push_str("  ")?;
-    push_escaped(text, name)?;
-    text.push_str(" = ")
 }
 
 /// What one item of an element is.

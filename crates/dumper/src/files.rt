@@ -64,7 +64,7 @@ impl From<ShelfError> for DumpError {
 /// Prints the lines of the file of a name: its byte order, and those of all its items; of one that is not well-formed
 /// those of the items before the one that shows the first fault, and none where its header is wrong. The line of the
 /// fault is left to the caller. It takes the memory of one frame and of about 65,536 bytes of text, or of one text of
-/// the file as it is printed, where that is more.
+/// the file as it is printed, where that is more; and of less than a million bytes for what stands before values.
 ///
 /// # Errors
 ///

@@ -1,7 +1,7 @@
 //! The lines of entries and of other structures.
 
 ghost use Rattle.std.specs.Prelude.{◌≡◌, ◌++◌, ℕ, [], OnOk, codes};
-ghost use Rattle.std.specs.String.{string_bytes};
+ghost use Rattle.std.specs.Fmt.{decimal};
 ghost use Rattle.layout_plan.specs.Plans.{plan_of};
 ghost use Rattle.file_grammar.specs.Record.{layout_in};
 ghost use Rattle.dumper.specs.Lines.{heading, element_line, entry_line, entry_text, structure_line, structure_text};
@@ -9,14 +9,14 @@ ghost use Rattle.dumper.specs.Lines.{end_line};
 ghost use Rattle.dumper.specs.Page.{Prints};
 
 use crate::bodies::print_body;
-use crate::escapes::push_escaped;
+use crate::escapes::put_escaped;
+use crate::numbers::push_decimal;
 use crate::page::Page;
 use dictionary::{Dictionary, Element, Entry};
 use frame_outside::{ShelfError, Sink};
 use layout_plan::Plans;
 use scalar_types::Order;
 use std::alloc::AllocError;
-use std::fmt::Write;
 
 /// A structure as its first line tells it.
 #[derive(Clone, Copy)]
@@ -32,20 +32,21 @@ pub struct Told {
 }
 
 /// Appends the first line of a file. Fails only where memory is out.
-pub fn push_heading(text: &mut String, order: Order) -> Result<(), AllocError>
-    ensures { OnOk result (string_bytes text.new ≡ string_bytes text.old ++ heading order) }
+pub fn push_heading(text: &mut Vec<u8>, order: Order) -> Result<(), AllocError>
+    ensures { OnOk result (text.new.items ≡ text.old.items ++ heading order) }
 {
     match order {
-        Order::Big => text.push_str("file order big\n"),
-        Order::Little => text.push_str("file order little\n"),
+        Order::Big => text.extend_from_slice(b"file order big\n"),
+        Order::Little => text.extend_from_slice(b"file order little\n"),
     }
 }
 
 /// Appends the last line of a file of so many bytes. Fails only where memory is out.
-pub fn push_end(text: &mut String, bytes: u64) -> Result<(), AllocError>
-    ensures { OnOk result (string_bytes text.new ≡ string_bytes text.old ++ end_line bytes) }
+pub fn push_end(text: &mut Vec<u8>, bytes: u64) -> Result<(), AllocError>
+    ensures { OnOk result (text.new.items ≡ text.old.items ++ end_line bytes) }
 {
-    write!(text, "end bytes {bytes}\n")
+    push_labelled(text, b"end bytes ", bytes)?;
+    text.extend_from_slice(b"\n")
 }
 
 /// Prints an entry. `Failed` where the sink fails, `NoMemory` where memory is out; a part of the text may be printed
@@ -63,25 +64,25 @@ pub fn print_entry<O: Sink>(page: &mut Page, out: &mut O, entry: &Entry) -> Resu
 }
 
 /// Appends the first line of an entry.
-fn push_entry(text: &mut String, entry: &Entry) -> Result<(), AllocError>
-    ensures { OnOk result (string_bytes text.new ≡ string_bytes text.old ++ entry_line entry.now) }
+fn push_entry(text: &mut Vec<u8>, entry: &Entry) -> Result<(), AllocError>
+    ensures { OnOk result (text.new.items ≡ text.old.items ++ entry_line entry.now) }
 {
-    let class = entry.class;
-    let elements = entry.elements.len();
-    write!(text, "entry {class} ")?;
-    push_escaped(text, entry.name.bytes())?;
-    write!(text, " elements {elements}\n")
+    push_labelled(text, b"entry ", entry.class as u64)?;
+    text.extend_from_slice(b" ")?;
+    put_escaped(text, entry.name.bytes())?;
+    push_labelled(text, b" elements ", entry.elements.len() as u64)?;
+    text.extend_from_slice(b"\n")
 }
 
 /// Appends the line of an element.
-fn push_element(text: &mut String, element: &Element) -> Result<(), AllocError>
-    ensures { OnOk result (string_bytes text.new ≡ string_bytes text.old ++ element_line element.now) }
+fn push_element(text: &mut Vec<u8>, element: &Element) -> Result<(), AllocError>
+    ensures { OnOk result (text.new.items ≡ text.old.items ++ element_line element.now) }
 {
-    text.push_str("  ")?;
-    push_escaped(text, element.name.bytes())?;
-    text.push(' ')?;
-    push_escaped(text, element.text.bytes())?;
-    text.push('\n')
+    text.extend_from_slice(b"  ")?;
+    put_escaped(text, element.name.bytes())?;
+    text.extend_from_slice(b" ")?;
+    put_escaped(text, element.text.bytes())?;
+    text.extend_from_slice(b"\n")
 }
 
 /// Prints a structure that is no part of an entry. The plans are those of the dictionary's entries; a body whose class
@@ -106,7 +107,15 @@ pub fn print_structure<O: Sink>(
     let composed = push_told(&mut page.text, entry.name.bytes(), told);
     page.settle(out, composed)?;
     let elements = entry.elements.as_slice();
-    print_body(page, out, order, elements, plans.plan(told.class), body)
+    print_body(
+        page,
+        out,
+        order,
+        told.class,
+        elements,
+        plans.plan(told.class),
+        body,
+    )
 }
 
 /// Prints a structure of a class that the dictionary does not hold: its first line, and that its body is not read.
@@ -116,22 +125,28 @@ fn print_unheld<O: Sink>(page: &mut Page, out: &mut O, told: Told) -> Result<(),
 {
     let composed = push_told(&mut page.text, &[], told);
     page.settle(out, composed)?;
-    let composed = page.text.push_str("  unread\n");
+    let composed = page.text.extend_from_slice(b"  unread\n");
     page.settle(out, composed)
 }
 
 /// Appends the first line of a structure.
-fn push_told(text: &mut String, name: &[u8], told: Told) -> Result<(), AllocError>
-    ensures { OnOk result (string_bytes text.new ≡ string_bytes text.old
+fn push_told(text: &mut Vec<u8>, name: &[u8], told: Told) -> Result<(), AllocError>
+    ensures { OnOk result (text.new.items ≡ text.old.items
         ++ structure_line name.now told.at told.class told.instance told.length) }
 {
-    let Told {
-        at,
-        class,
-        instance,
-        length,
-    } = told;
-    write!(text, "record at {at} ")?;
-    push_escaped(text, name)?;
-    write!(text, " class {class} instance {instance} length {length}\n")
+    push_labelled(text, b"record at ", told.at)?;
+    text.extend_from_slice(b" ")?;
+    put_escaped(text, name)?;
+    push_labelled(text, b" class ", told.class as u64)?;
+    push_labelled(text, b" instance ", told.instance as u64)?;
+    push_labelled(text, b" length ", told.length)?;
+    text.extend_from_slice(b"\n")
+}
+
+/// Appends a number in decimal, after what it is.
+fn push_labelled(text: &mut Vec<u8>, label: &[u8], n: u64) -> Result<(), AllocError>
+    ensures { OnOk result (text.new.items ≡ text.old.items ++ (label.now ++ decimal n)) }
+{
+    text.extend_from_slice(label)?;
+    push_decimal(text, n)
 }

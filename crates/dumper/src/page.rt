@@ -4,6 +4,7 @@ ghost use Rattle.std.specs.Prelude.{◌≡◌, [], Err, OnOk, OnErr};
 ghost use Rattle.frame_outside.specs.Sink.{Output};
 ghost use Rattle.dumper.specs.Page.{pending, Prints};
 
+use crate::beginnings::Beginnings;
 use frame_outside::{ShelfError, Sink};
 use std::alloc::{AllocError, Global};
 
@@ -14,7 +15,11 @@ const FULL: usize = 65_536;
 #[derive(Drop)]
 pub struct Page {
     pub alloc: Global,
-    pub text: String,
+    pub text: Vec<u8>,
+    /// What stands before the values of fields.
+    pub beginnings: Beginnings,
+    /// Room for the numbers that the fields of a body are.
+    pub numbers: Vec<u64>,
 }
 
 impl Page {
@@ -24,7 +29,9 @@ impl Page {
     {
         Page {
             alloc,
-            text: String::new(alloc),
+            text: Vec::new(alloc),
+            beginnings: Beginnings::new(alloc),
+            numbers: Vec::new(alloc),
         }
     }
 
@@ -53,7 +60,7 @@ impl Page {
         ensures empty { OnOk result (pending self.new ≡ []) }
     {
         if !self.text.is_empty() {
-            out.put(self.alloc, self.text.as_bytes())?;
+            out.put(self.alloc, self.text.as_slice())?;
             self.text.clear();
         }
         Ok(())

@@ -1,7 +1,6 @@
 //! Values printed from the bytes that spell them: no value is made of them.
 
 ghost use Rattle.std.specs.Prelude.{◌≡◌, ◌≤◌, ◌++◌, ◌↔◌, ℕ, List, length, IsTrue, IfOk, OnOk};
-ghost use Rattle.std.specs.String.{string_bytes};
 ghost use Rattle.scalar_types.specs.declared.Width.TheVariants.{One};
 ghost use Rattle.record_values.specs.declared.values.Value.{Value};
 ghost use Rattle.layout_plan.specs.declared.fields.Form.TheVariants.{Number};
@@ -11,8 +10,8 @@ ghost use Rattle.dumper.specs.Printed.{value_text, list_text, bytes_text};
 ghost use Rattle.dumper.specs.Items.{BeginsItem, OfItem, AreSingles, next_text, text_between, first_link};
 ghost use Rattle.dumper.specs.Page.{Prints};
 
-use crate::escapes::push_quoted;
-use crate::numbers::{push_digits, push_link, push_number, push_pair};
+use crate::escapes::put_quoted;
+use crate::numbers::{CHUNK, push_digits, push_link, push_number, push_pair};
 use crate::page::Page;
 use crate::spans::text_length;
 use frame_outside::{ShelfError, Sink};
@@ -20,9 +19,6 @@ use layout_plan::{Field, Form, LINK_SIZE};
 use scalar_types::{Order, Width, read_num};
 use std::alloc::AllocError;
 use type_text::{Base, Link};
-
-/// So many bytes of a list are composed at a time.
-const CHUNK: usize = 4096;
 
 /// Prints the value of a field of this base, which the bytes spell. Failed where the sink fails, NoMemory where memory
 /// is out: a part of the text may have been put then.
@@ -60,7 +56,7 @@ fn is_byte(form: Form) -> bool
 
 /// Appends the value of a single item, which the bytes spell.
 fn push_single(
-    text: &mut String,
+    text: &mut Vec<u8>,
     order: Order,
     base: &Base,
     form: Form,
@@ -69,15 +65,16 @@ fn push_single(
     requires form { form ≡ form_of base.now }
     requires spelled { (v : Value) × IsSingle order form v bytes.now }
     ensures { OnOk result ((v : Value) → IsSingle order form v bytes.now
-        → string_bytes text.new ≡ string_bytes text.old ++ value_text base.now v) }
+        → text.new.items ≡ text.old.items ++ value_text base.now v) }
 {
     push_item(text, order, base, form, bytes)?;
     Ok(())
 }
 
 /// Appends the value of the item at the front of the bytes, and answers how many spell it.
+#[inline(always)]
 fn push_item(
-    text: &mut String,
+    text: &mut Vec<u8>,
     order: Order,
     base: &Base,
     form: Form,
@@ -86,7 +83,7 @@ fn push_item(
     requires form { form ≡ form_of base.now }
     requires spelled { BeginsItem order form bytes.now }
     ensures { IfOk result (λ size. OfItem order form bytes.now (λ v long. (size ≡ long)
-        × (string_bytes text.new ≡ string_bytes text.old ++ value_text base.now v))) }
+        × (text.new.items ≡ text.old.items ++ value_text base.now v))) }
 {
     match form {
         Form::Number(width) => {
@@ -102,7 +99,7 @@ fn push_item(
         }
         Form::Text => {
             let length = text_length(order, bytes);
-            push_quoted(text, text_of(&bytes[..length]))?;
+            put_quoted(text, text_of(&bytes[..length]))?;
             Ok(length)
         }
         Form::Link => {
@@ -148,13 +145,13 @@ fn print_list<O: Sink>(
         → Prints (O.output out.old) (O.output out.new) page.old page.new
         (list_text (value_text base.now) items) result }
 {
-    let composed = page.text.push('[');
+    let composed = page.text.extend_from_slice(b"[");
     page.settle(out, composed)?;
     let mut at = 0;
     while at < bytes.len() {
         at += print_item(page, out, order, base, form, &bytes[at..], at > 0)?;
     }
-    let composed = page.text.push(']');
+    let composed = page.text.extend_from_slice(b"]");
     page.settle(out, composed)
 }
 
@@ -184,7 +181,7 @@ fn print_item<O: Sink>(
 
 /// Appends the item at the front of the bytes, after a blank where it is not the first, and answers how many spell it.
 fn push_next(
-    text: &mut String,
+    text: &mut Vec<u8>,
     order: Order,
     base: &Base,
     form: Form,
@@ -194,10 +191,10 @@ fn push_next(
     requires form { form ≡ form_of base.now }
     requires spelled { BeginsItem order form bytes.now }
     ensures { IfOk result (λ size. OfItem order form bytes.now (λ v long. (size ≡ long)
-        × (string_bytes text.new ≡ string_bytes text.old ++ next_text after base.now v))) }
+        × (text.new.items ≡ text.old.items ++ next_text after base.now v))) }
 {
     if after {
-        text.push(' ')?;
+        text.push(b' ')?;
     }
     push_item(text, order, base, form, bytes)
 }
@@ -206,7 +203,7 @@ fn push_next(
 fn print_bytes<O: Sink>(page: &mut Page, out: &mut O, bytes: &[u8]) -> Result<(), ShelfError>
     ensures { Prints (O.output out.old) (O.output out.new) page.old page.new (bytes_text bytes.now) result }
 {
-    let composed = page.text.push('#');
+    let composed = page.text.extend_from_slice(b"#");
     page.settle(out, composed)?;
     let mut at = 0;
     while at < bytes.len() {

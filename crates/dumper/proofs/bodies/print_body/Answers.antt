@@ -17,7 +17,7 @@ returns-in-Some g c =
     let read = layout-read c.args.order c.args.elements.now fields c.args.body.now layout
     (c.measure.ensures.ok.0 (sym c.is_ok.ensures.value ∙ c.if-is_ok.true)) in
     prints-is _ _ _ _ _ _ _ (text-read c.args.order c.args.elements.now fields c.args.body.now read.0 layout read.1)
-    (c.print_fields.ensures read.0 read.1)
+    (c.print_fields-printed.ensures read.0 read.1)
 
 pub returns-in_default : goal.returns-in_default
 returns-in_default g c =
@@ -34,5 +34,5 @@ returns-in_default g c =
     ] in
     prints-is _ _ _ _ _ _ _ text
     (settled _ _ _ _ _ (codes "  unread\n") _ _
-    (pushed _ _ (codes "  unread\n") c.push_str-composed.result c.push_str-composed.ensures.bytes)
+    (pushed _ _ (codes "  unread\n") c.extend_from_slice-composed.result c.extend_from_slice-composed.ensures.items)
     c.settle.ensures.composed c.settle.ensures.refused)

@@ -11,41 +11,40 @@ use Rattle.dumper.proofs.bodies.print_field.Goals as goal
 pub returns-in_err-settle : goal.returns-in_err-settle
 returns-in_err-settle g c = λ numbers v s.
     let e = c.args.element.now in
-    let begin : List ℕ = codes "  " ++ (escaped c.bytes.result.now ++ codes " = ") in
+    let begin : List ℕ = codes "  " ++ (escaped c.bytes-name.result.now ++ codes " = ") in
     let others : List ℕ = value_text (base_of e) v ++ codes "\n" in
-    prints-is _ _ _ _ _ _ _ (line-parts c.bytes.result.now e v c.bytes.ensures)
+    prints-is _ _ _ _ _ _ _ (line-parts c.bytes-name.result.now e v c.bytes-name.ensures)
     (prints-stopped _ _ _ (pending c.settle.new.self) _ begin others _ c.settle.result _ c.in_err-settle.was
     (handed-on _ _ c.from_residual.ensures.1)
-    (settled _ _ _ _ _ begin _ _ c.push_begin-composed.ensures c.settle.ensures.composed c.settle.ensures.refused))
+    (settled _ _ _ _ _ begin _ _ c.push-composed.ensures c.settle.ensures.composed c.settle.ensures.refused))
 
 pub returns-in_err-print_value : goal.returns-in_err-print_value
 returns-in_err-print_value g c = λ numbers v s.
     let e = c.args.element.now in
-    let begin : List ℕ = codes "  " ++ (escaped c.bytes.result.now ++ codes " = ") in
+    let begin : List ℕ = codes "  " ++ (escaped c.bytes-name.result.now ++ codes " = ") in
     let value : List ℕ = value_text (base_of e) v in
-    prints-is _ _ _ _ _ _ _ (line-parts c.bytes.result.now e v c.bytes.ensures)
+    prints-is _ _ _ _ _ _ _ (line-parts c.bytes-name.result.now e v c.bytes-name.ensures)
     (prints-then _ (g.O.Sink.output c.settle.new.out) _ _ (pending c.settle.new.self) _ begin (value ++ codes "\n") _
     (carried _ _ _ _ begin _ c.settle.result c.in_ok-settle.was
-    (settled _ _ _ _ _ begin _ _ c.push_begin-composed.ensures c.settle.ensures.composed c.settle.ensures.refused))
+    (settled _ _ _ _ _ begin _ _ c.push-composed.ensures c.settle.ensures.composed c.settle.ensures.refused))
     (prints-stopped _ _ _ (pending c.print_value.new.page) _ value (codes "\n") _ c.print_value.result _
     c.in_err-print_value.was (handed-on _ _ c.from_residual-in_err-print_value.ensures.1)
     (prints-is _ _ _ _ _ value _ (ap (λ base. value_text base v) c.base_of.ensures)
     (c.print_value.ensures numbers v s))))
 
 pub returns : goal.returns
-unfolding lib.Utf8.encode
 returns g c = λ numbers v s.
     let e = c.args.element.now in
-    let begin : List ℕ = codes "  " ++ (escaped c.bytes.result.now ++ codes " = ") in
+    let begin : List ℕ = codes "  " ++ (escaped c.bytes-name.result.now ++ codes " = ") in
     let value : List ℕ = value_text (base_of e) v in
-    prints-is _ _ _ _ _ _ _ (line-parts c.bytes.result.now e v c.bytes.ensures)
+    prints-is _ _ _ _ _ _ _ (line-parts c.bytes-name.result.now e v c.bytes-name.ensures)
     (prints-then _ (g.O.Sink.output c.settle.new.out) _ _ (pending c.settle.new.self) _ begin (value ++ codes "\n") _
     (carried _ _ _ _ begin _ c.settle.result c.in_ok-settle.was
-    (settled _ _ _ _ _ begin _ _ c.push_begin-composed.ensures c.settle.ensures.composed c.settle.ensures.refused))
+    (settled _ _ _ _ _ begin _ _ c.push-composed.ensures c.settle.ensures.composed c.settle.ensures.refused))
     (prints-then _ (g.O.Sink.output c.print_value.new.out) _ _ (pending c.print_value.new.page) _ value (codes "\n") _
     (carried _ _ _ _ value _ c.print_value.result c.in_ok-print_value.was
     (prints-is _ _ _ _ _ value _ (ap (λ base. value_text base v) c.base_of.ensures)
     (c.print_value.ensures numbers v s)))
     (settled _ _ _ _ _ (codes "\n") _ _
-    (pushed _ _ (codes "\n") c.push-composed.result c.push-composed.ensures.bytes) c.settle-2.ensures.composed
+    (pushed _ _ (codes "\n") c.extend_from_slice-composed.result c.extend_from_slice-composed.ensures.items) c.settle-2.ensures.composed
     c.settle-2.ensures.refused)))

@@ -15,8 +15,8 @@ use Rattle.dumper.proofs.bodies.print_fields.Goals as goal
 pub loop-k-init : goal.loop-k-init
 loop-k-init g c =
     shown-none c.args.order c.args.elements.now c.fields-fields.result.now c.args.plan.now c.args.body.now
-    (g.O.Sink.output c.args.out.now) (pending c.args.page.now) c.in-Ok.numbers.items c.fields-fields.ensures.fields
-    c.in-Ok.ensures.items c.fields-fields.ensures.layout.sound c.requires.reads
+    (g.O.Sink.output c.args.out.now) (pending c.args.page.now) c.clear.new.self.items c.fields-fields.ensures.fields
+    c.clear.ensures.items c.fields-fields.ensures.layout.sound c.requires.reads
 
 pub field_length-length-requires : goal.field_length-length-requires
 field_length-length-requires g c =
@@ -129,6 +129,6 @@ returns g c = λ reading reads.
     shown-tail (g.O.Sink.output c.settle.new.out) (pending c.settle.new.self) c.settle.result c.loop-k.invariant
     (omega arith) (eqb-false (length c.loop-k.rest.now) 0 (sym c.is_empty.ensures ∙ c.if-is_empty.false))
     (settled _ _ _ _ _ (codes "  tail 4\n") _ _
-    (pushed _ _ (codes "  tail 4\n") c.push_str-composed.result c.push_str-composed.ensures.bytes)
+    (pushed _ _ (codes "  tail 4\n") c.extend_from_slice-composed.result c.extend_from_slice-composed.ensures.items)
     c.settle.ensures.composed c.settle.ensures.refused) reading
     (ap (reading_by c.args.order c.args.body.now) c.fields-fields.ensures.fields ∙ reads)

@@ -1,6 +1,5 @@
 -- Each end of a printing by the lemma of its name on the lines so far.
 use Rattle.std.proofs.Common.{◌≤◌, Err, inl, inr, refl, sym, ap, subst, ◌∙◌, arith, rules}
-use Rattle.std.specs.String.{string_bytes}
 use Rattle.std.proofs.lemmas.Result.{err_from_is_err_and}
 use Rattle.item_reader.specs.Reader.{IsFileEnd}
 use Rattle.dumper.specs.declared.files.DumpError.TheVariants.{Device}
@@ -25,7 +24,7 @@ items-init g c =
     let new = g.O.Sink.output c.settle.new.out in
     let page = pending c.args.page.now in
     let now = pending c.settle.new.self in
-    let first = settled old new page (string_bytes c.push_heading-composed.new.text) now (heading c.order.result)
+    let first = settled old new page (c.push_heading-composed.new.text.items) now (heading c.order.result)
     c.push_heading-composed.result c.settle.result c.push_heading-composed.ensures c.settle.ensures.composed
     c.settle.ensures.refused in
     record {
@@ -57,7 +56,7 @@ returns-in_err-settle-clause-lines g c = λ file told.
     (heading-cut file r old new c.args.page.now c.settle.new.self now e c.settle.result c.in_err-settle.was
     (c.requires.reads.read c.requires.error file told) c.requires.begun
     (subst (λ o. CarriesOrStops old new page now (heading o) c.settle.result) c.order.ensures
-    (settled old new page (string_bytes c.push_heading-composed.new.text) now (heading c.order.result)
+    (settled old new page (c.push_heading-composed.new.text.items) now (heading c.order.result)
     c.push_heading-composed.result c.settle.result c.push_heading-composed.ensures c.settle.ensures.composed
     c.settle.ensures.refused)))
 
@@ -72,7 +71,7 @@ returns-in_err-settle-clause-sink g c =
     let page = pending c.args.page.now in
     let now = pending c.settle.new.self in
     faults-grow old new page now (heading c.order.result) c.settle.result
-    (settled old new page (string_bytes c.push_heading-composed.new.text) now (heading c.order.result)
+    (settled old new page (c.push_heading-composed.new.text.items) now (heading c.order.result)
     c.push_heading-composed.result c.settle.result c.push_heading-composed.ensures c.settle.ensures.composed
     c.settle.ensures.refused)
 
@@ -86,7 +85,7 @@ returns-in_err-settle-clause-device g c = λ is.
     let from = err_from_is_err_and c.from_residual.result c.from_residual.ensures.1 in
     inr (stopped-rose old old new page now (heading c.order.result) e c.settle.result (omega arith)
     c.in_err-settle.was
-    (settled old new page (string_bytes c.push_heading-composed.new.text) now (heading c.order.result)
+    (settled old new page (c.push_heading-composed.new.text.items) now (heading c.order.result)
     c.push_heading-composed.result c.settle.result c.push_heading-composed.ensures c.settle.ensures.composed
     c.settle.ensures.refused)
     (same-error c.from_residual.result (shelf_error e) Device (from.1 ∙ ap (λ e. Err e) from.2) is))

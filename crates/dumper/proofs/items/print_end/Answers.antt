@@ -1,6 +1,5 @@
 -- The structure, and then the last line.
 use Rattle.std.proofs.Common.{◌++◌, ap}
-use Rattle.std.specs.String.{string_bytes}
 use Rattle.dumper.specs.Lines.{end_line}
 use Rattle.dumper.specs.Given.{last_text}
 use Rattle.dumper.specs.Page.{pending}
@@ -33,5 +32,5 @@ returns g c =
     (prints-then old mid new page middle now text last c.settle.result
     (carried old mid page middle text c.in_ok-print_last.field-0 c.print_last.result c.in_ok-print_last.was
     c.print_last.ensures)
-    (settled mid new middle (string_bytes c.push_end-composed.new.text) now last c.push_end-composed.result
+    (settled mid new middle (c.push_end-composed.new.text.items) now last c.push_end-composed.result
     c.settle.result c.push_end-composed.ensures c.settle.ensures.composed c.settle.ensures.refused))

@@ -15,5 +15,5 @@ returns g c =
     prints-then _ (g.O.Sink.output c.settle.new.out) _ _ (pending c.settle.new.self) _ _ (codes "  unread\n") _
     (carried _ _ _ _ _ _ c.settle.result c.in_ok-settle.was
     (settled _ _ _ _ _ _ _ _ c.push_told-composed.ensures c.settle.ensures.composed c.settle.ensures.refused))
-    (settled _ _ _ _ _ _ _ _ (pushed _ _ (codes "  unread\n") _ c.push_str-composed.ensures.bytes)
+    (settled _ _ _ _ _ _ _ _ (pushed _ _ (codes "  unread\n") _ c.extend_from_slice-composed.ensures.items)
     c.settle-2.ensures.composed c.settle-2.ensures.refused)

@@ -1,19 +1,19 @@
 -- The mark, and then piece after piece.
-use Rattle.std.proofs.Common.{◌-◌, take, drop, arith, lit<}
+use Rattle.std.proofs.Common.{◌-◌, take, drop, arith}
 use Rattle.std.specs.Prelude.{codes}
 use Rattle.hex.specs.Hex.{encode_lower}
 use Rattle.dumper.specs.Page.{pending}
 use Rattle.dumper.proofs.Pages.{settled, prints-then, prints-stopped, prints-is, carried, carried-then}
-use Rattle.dumper.proofs.Pages.{carries-is, handed-on}
-use Rattle.dumper.proofs.AsciiText.{ascii-pushed, encode-none, piece-more, piece-left}
+use Rattle.dumper.proofs.Pages.{carries-is, handed-on, pushed}
+use Rattle.dumper.proofs.HexPieces.{encode-none, piece-more, piece-left}
 use Rattle.dumper.proofs.values.print_bytes.Goals as goal
 
 pub returns-in_err-settle : goal.returns-in_err-settle
 returns-in_err-settle g c =
     prints-stopped _ _ _ (pending c.settle.new.self) _ (codes "#") _ _ c.settle.result _ c.in_err-settle.was
     (handed-on _ _ c.from_residual.ensures.1)
-    (settled _ _ _ _ _ _ c.push-composed.result _
-    (ascii-pushed _ _ _ _ 35 (c.push-composed.ensures.ascii (lit< tt)) c.push-composed.ensures.bytes)
+    (settled _ _ _ _ _ _ c.extend_from_slice-composed.result _
+    (pushed _ _ (codes "#") c.extend_from_slice-composed.result c.extend_from_slice-composed.ensures.items)
     c.settle.ensures.composed c.settle.ensures.refused)
 
 pub loop-at-init : goal.loop-at-init
@@ -21,8 +21,8 @@ loop-at-init g c = record {
   within = omega arith;
   printed = carries-is _ _ _ _ _ _ encode-none
       (carried _ _ _ _ (codes "#") _ c.settle.result c.in_ok-settle.was
-      (settled _ _ _ _ _ _ c.push-composed.result _
-      (ascii-pushed _ _ _ _ 35 (c.push-composed.ensures.ascii (lit< tt)) c.push-composed.ensures.bytes)
+      (settled _ _ _ _ _ _ c.extend_from_slice-composed.result _
+      (pushed _ _ (codes "#") c.extend_from_slice-composed.result c.extend_from_slice-composed.ensures.items)
       c.settle.ensures.composed c.settle.ensures.refused));
 }
 

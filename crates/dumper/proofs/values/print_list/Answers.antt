@@ -1,12 +1,11 @@
 -- The bracket, and then item after item.
-use Rattle.std.proofs.Common.{sym, subst, drop, arith, lit<}
+use Rattle.std.proofs.Common.{sym, subst, drop, arith}
 use Rattle.std.specs.Prelude.{codes}
 use Rattle.std.proofs.lemmas.Bool.{ltb-true, ltb-false}
 use Rattle.std.proofs.lemmas.List.{take_rest, length-drop}
 use Rattle.dumper.specs.Page.{pending}
 use Rattle.dumper.specs.Items.{BeginsItem}
-use Rattle.dumper.proofs.Pages.{settled, prints-stopped, carried, handed-on}
-use Rattle.dumper.proofs.AsciiText.{ascii-pushed}
+use Rattle.dumper.proofs.Pages.{settled, prints-stopped, carried, handed-on, pushed}
 use Rattle.dumper.proofs.ListedItems.{printed-none, printed-begins, printed-more, printed-bounds, printed-stopped}
 use Rattle.dumper.proofs.ListedItems.{printed-all}
 use Rattle.dumper.proofs.values.print_list.Goals as goal
@@ -15,8 +14,8 @@ pub returns-in_err-settle : goal.returns-in_err-settle
 returns-in_err-settle g c = λ items s.
     prints-stopped _ _ _ (pending c.settle.new.self) _ (codes "[") _ _ c.settle.result _ c.in_err-settle.was
     (handed-on _ _ c.from_residual.ensures.1)
-    (settled _ _ _ _ _ _ c.push-composed.result _
-    (ascii-pushed _ _ _ _ 91 (c.push-composed.ensures.ascii (lit< tt)) c.push-composed.ensures.bytes)
+    (settled _ _ _ _ _ _ c.extend_from_slice-composed.result _
+    (pushed _ _ (codes "[") c.extend_from_slice-composed.result c.extend_from_slice-composed.ensures.items)
     c.settle.ensures.composed c.settle.ensures.refused)
 
 pub loop-at-init : goal.loop-at-init
@@ -24,8 +23,8 @@ loop-at-init g c = record {
   within = omega arith;
   printed = λ items s.
       printed-none _ _ _ _ _ _ _ _ _ (carried _ _ _ _ (codes "[") _ c.settle.result c.in_ok-settle.was
-      (settled _ _ _ _ _ _ c.push-composed.result _
-      (ascii-pushed _ _ _ _ 91 (c.push-composed.ensures.ascii (lit< tt)) c.push-composed.ensures.bytes)
+      (settled _ _ _ _ _ _ c.extend_from_slice-composed.result _
+      (pushed _ _ (codes "[") c.extend_from_slice-composed.result c.extend_from_slice-composed.ensures.items)
       c.settle.ensures.composed c.settle.ensures.refused)) s;
 }
 
@@ -78,7 +77,7 @@ returns g c = λ items s.
     let at = c.loop-at.at in
     printed-all _ (g.O.Sink.output c.loop-at.out) _ _ (pending c.loop-at.page) _ _ _ _ _ at
     (drop at c.args.bytes.now) _ (omega (arith, length-drop at c.args.bytes.now, c.loop-at-test.false))
-    (settled _ _ _ _ _ (codes "]") c.push-composed-2.result _
-    (ascii-pushed _ _ _ _ 93 (c.push-composed-2.ensures.ascii (lit< tt)) c.push-composed-2.ensures.bytes)
+    (settled _ _ _ _ _ (codes "]") c.extend_from_slice-composed-2.result _
+    (pushed _ _ (codes "]") c.extend_from_slice-composed-2.result c.extend_from_slice-composed-2.ensures.items)
     c.settle-2.ensures.composed c.settle-2.ensures.refused)
     (c.loop-at.invariant.printed items s)

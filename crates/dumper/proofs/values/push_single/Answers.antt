@@ -1,6 +1,5 @@
 -- The bytes are one item.
 use Rattle.std.proofs.Common.{◌≡◌, ◌++◌}
-use Rattle.std.specs.String.{string_bytes}
 use Rattle.dumper.specs.Printed.{value_text}
 use Rattle.dumper.proofs.FrontItems.{single-begins, of-single}
 use Rattle.dumper.proofs.values.push_single.Goals as goal
@@ -13,5 +12,5 @@ pub returns : goal.returns
 returns c = λ v s.
     (of-single c.args.order c.args.form v c.args.bytes.now
     (λ w long. (c.in_ok-push_item.field-0 ≡ long)
-    × (string_bytes c.push_item.new.text ≡ string_bytes c.args.text.now ++ value_text c.args.base.now w))
+    × (c.push_item.new.text.items ≡ c.args.text.now.items ++ value_text c.args.base.now w))
     c.in_ok-push_item.ensures s).1

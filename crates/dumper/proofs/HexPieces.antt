@@ -1,17 +1,10 @@
--- Characters of ASCII appended to a text, and hexadecimal digits piece by piece.
-use Rattle.std.proofs.Common.{◌≡◌, ℕ, ◌-◌, ◌+◌, ◌/◌, ◌%◌, ◌≤◌, List, [], ◌∷◌, ◌++◌, get_or, take, drop, Result, Ok, Err}
-use Rattle.std.proofs.Common.{OnOk, is_ok, refl}
+-- Hexadecimal digits piece by piece.
+use Rattle.std.proofs.Common.{◌≡◌, ℕ, ◌-◌, ◌+◌, ◌/◌, ◌%◌, ◌≤◌, List, [], ◌∷◌, ◌++◌, get_or, take, drop, refl}
 use Rattle.std.proofs.Common.{sym, ap, ◌∙◌, arith, append_assoc}
-use Rattle.std.specs.Prelude.{if◌then◌else◌, codes}
+use Rattle.std.specs.Prelude.{codes}
 use Rattle.std.proofs.Math.Seq.{take-add}
 use Rattle.std.proofs.lemmas.List.{take-append-drop}
 use Rattle.hex.specs.Hex.{encode_with, encode_lower, lower_digits}
-
--- a character that was appended, by what `push` says of the bytes
-pub ascii-pushed : {X Y : Type 0} (result : Result X Y) (old new bytes : List ℕ) (c : ℕ) → bytes ≡ c ∷ []
-    → new ≡ (if is_ok result then old ++ bytes else old) → OnOk result (new ≡ old ++ c ∷ [])
-ascii-pushed (Ok x) old new bytes c is grown = grown ∙ ap (λ ys. old ++ ys) is
-ascii-pushed (Err e) old new bytes c is grown = tt
 
 -- ---- hexadecimal digits
 
