@@ -1,0 +1,13 @@
+pub mod Cuts
+pub mod Passing
+pub mod Placed
+pub mod Listing
+pub mod ByTable
+pub mod OtherFiles
+pub mod Answers
+pub mod Taken
+pub mod TableLaws
+pub mod CutLaws
+pub mod Due
+pub mod Scans
+pub mod Laws
