@@ -16,7 +16,6 @@ use Rattle.dictionary.specs.Dictionary.{entry_of}
 use Rattle.layout_plan.specs.declared.fields.Field.{Field}
 use Rattle.layout_plan.specs.Layout.{layout_of}
 use Rattle.link_graph.specs.declared.nodes.Root.TheVariants as root
-use Rattle.type_text.specs.declared.types.Link.{Link}
 use Rattle.link_graph.specs.Collected.{Bodied, Collected, Becomes, with_node, with_end}
 use Rattle.file_grammar.specs.declared.reason.Reason.{Reason}
 use Rattle.file_grammar.specs.declared.reason.Reason.TheVariants.{OpenFrame, BadClosing, FrameCount}
@@ -179,12 +178,12 @@ sound-record s p told_weight header segment sound none here size reads heavy lig
 
 -- ---- the end of a frame
 
-pub sound-frame_end : (s : State) (p : Placed) (segment : Collected) (links : List (List Link))
-    (kept : Option (List ℕ)) (numbers : List ℕ) → kept ≡ Some numbers → IsSound s → IsStructureAt s.at p
+pub sound-frame_end : (s : State) (p : Placed) (segment : Collected) (kept : Option (List ℕ))
+    (numbers : List ℕ) → kept ≡ Some numbers → IsSound s → IsStructureAt s.at p
     → p.at + p.length ≤ file_limit → s.frames < frames_limit
     → Becomes segment (with_end (node_by s.dictionary p) s.segment)
-    → IsKept s (after_frame_end s p segment links kept)
-sound-frame_end s p segment links kept numbers ended sound here low few becomes = record {
+    → IsKept s (after_frame_end s p segment kept)
+sound-frame_end s p segment kept numbers ended sound here low few becomes = record {
   sound = record {
     low = omega (arith, here.place, low);
     header = omega (arith, sound.header);
@@ -203,9 +202,9 @@ sound-frame_end s p segment links kept numbers ended sound here low few becomes 
 }
 
 -- what is beside the frame does not matter, while it is open
-pub sound-beside : (s : State) (links : List (List Link)) (kept : Option (List ℕ)) → kept ≡ s.numbering
-    → IsSound s → IsSound (record s { links = links; numbering = kept })
-sound-beside s links kept same sound = record {
+pub sound-beside : (s : State) (kept : Option (List ℕ)) → kept ≡ s.numbering
+    → IsSound s → IsSound (record s { numbering = kept })
+sound-beside s kept same sound = record {
   low = sound.low;
   header = sound.header;
   built_in = record { structure = sound.built_in.structure; element = sound.built_in.element };
@@ -253,7 +252,7 @@ sound-file_end s p sound here low pending = record {
 -- ---- an entry
 
 -- a structure that reads is of a class that is held
-reads-held : (order : Order) (held : List Entry) (s : Structure) → IsSome (reading_of order held s)
+pub reads-held : (order : Order) (held : List Entry) (s : Structure) → IsSome (reading_of order held s)
     → IsSome (entry_of held s.class)
 reads-held order held s some = by (entry_of held s.class) some
   where
@@ -265,7 +264,7 @@ reads-held order held s some = by (entry_of held s.class) some
     by (Some x) e = refl
 
 -- what is held of a class stays
-entry-still : (held : List Entry) (e : Entry) (class : ℕ) → IsSome (entry_of held class)
+pub entry-still : (held : List Entry) (e : Entry) (class : ℕ) → IsSome (entry_of held class)
     → entry_of (held ++ e ∷ []) class ≡ entry_of held class
 entry-still held e class some = by (entry_of held class) refl some
   where

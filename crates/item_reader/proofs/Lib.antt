@@ -11,6 +11,7 @@ pub mod HeaderRead
 pub mod Holding
 pub mod RolesKept
 pub mod Kept
+pub mod Rows
 pub mod LentBody
 pub mod Located
 pub mod Numbers

@@ -1,7 +1,7 @@
 -- The reasons of each kind, in the parts that the code judges one after another.
 use Rattle.std.proofs.Common.{◌≡◌, ℕ, ◌+◌, ◌≤◌, Bool, true, false, not, ◌&&◌, ◌||◌, cond, List, [], ◌∷◌, ◌++◌, length}
 use Rattle.std.proofs.Common.{drop, is_none, Option, Some, None, refl, sym, ap, ◌∙◌, subst, arith}
-use Rattle.std.specs.Prelude.{◌==◌, nat_lt, option_and_then, find, is_some, codes, Result, Ok, Err, IfErr, IsErrAnd}
+use Rattle.std.specs.Prelude.{◌==◌, nat_lt, option_and_then, find, is_some, codes, Result, Ok, Err, IfOk, IfErr, OnOk, IsErrAnd}
 use Rattle.std.specs.Bool.{then_some}
 use Rattle.std.specs.Option.{option_map_or, option_or}
 use Rattle.std.proofs.lemmas.Bool.{false≢true, le-ltb, eq-eqb, eqb-true, eqb-false, ne_eqb}
@@ -244,6 +244,19 @@ weigh-unread h f whole frame small fault = by (reading_of h.order (entries_befor
 pub passed-on : {T E : Type 0} (r : Result T E) (f : E) (P : E → Type 0) → IsErrAnd r (λ e. e ≡ f) → P f → IfErr r P
 passed-on (Ok x) f P is said = absurd is
 passed-on (Err e) f P is said = subst P (sym is) said
+
+-- what follows from what is said of an answer is said of it too
+pub ok-with : {T E : Type 0} (r : Result T E) (P Q : T → Type 0) → ((x : T) → P x → Q x) → IfOk r P → IfOk r Q
+ok-with (Ok x) P Q more said = more x said
+ok-with (Err e) P Q more said = tt
+
+pub err-with : {T E : Type 0} (r : Result T E) (P Q : E → Type 0) → ((e : E) → P e → Q e) → IfErr r P → IfErr r Q
+err-with (Ok x) P Q more said = tt
+err-with (Err e) P Q more said = more e said
+
+pub on_ok-with : {T E : Type 0} (r : Result T E) (P Q : Type 0) → (P → Q) → OnOk r P → OnOk r Q
+on_ok-with (Ok x) P Q more said = more said
+on_ok-with (Err e) P Q more said = tt
 
 -- ---- a record in its frame
 

@@ -198,6 +198,7 @@ is-ready outside c last error r going =
     record {
       stands = going.reads.stands;
       sound = going.keeps.sound;
+      rows = going.keeps.rows;
       pending = going.keeps.pending;
       unclosed = going.unclosed;
       read = going.keeps.read;

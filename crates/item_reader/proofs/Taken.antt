@@ -12,7 +12,6 @@ use Rattle.dictionary.specs.declared.entries.Element.{Element}
 use Rattle.dictionary.specs.declared.entries.Entry.{Entry}
 use Rattle.link_graph.specs.declared.segment.SegmentFault.{SegmentFault}
 use Rattle.link_graph.specs.declared.segment.SegmentFault.TheVariants as segment
-use Rattle.type_text.specs.declared.types.Link.{Link}
 use Rattle.link_graph.specs.Collected.{Collected, Becomes, with_node, is_held}
 use Rattle.file_grammar.specs.declared.reason.Reason.TheVariants.{InstanceTwice}
 use Rattle.file_grammar.specs.declared.fault.Fault.{Fault}
@@ -48,7 +47,7 @@ use Rattle.item_reader.specs.Judged.{node_by}
 use Rattle.item_reader.proofs.CutEntry.{cut-whole}
 use Rattle.item_reader.proofs.Holding.{kind-here}
 use Rattle.item_reader.proofs.Located.{end-here, size-here, class-here, instance-here, fits-here, fault-kind}
-use Rattle.item_reader.proofs.Parts.{first_of-back, record-parts, frame_end-parts}
+use Rattle.item_reader.proofs.Parts.{first_of-front, first_of-back, record-parts, frame_end-parts}
 use Rattle.item_reader.proofs.Parts.{file_end-parts}
 use Rattle.item_reader.proofs.Parts.{table-parts, entry-parts, record-twice}
 use Rattle.item_reader.proofs.Twins.{held-twin}
@@ -150,11 +149,10 @@ frame_end-refused s p told_weight result errors.NoMemory new file body unclosed 
     = tt
 
 -- the state after the end of a frame
-abbrev pub after_frame_end : State → Placed → Collected → List (List Link) → Option (List ℕ) → State
-after_frame_end s p segment links kept = record s {
+abbrev pub after_frame_end : State → Placed → Collected → Option (List ℕ) → State
+after_frame_end s p segment kept = record s {
   at = s.at + p.length;
   segment = segment;
-  links = links;
   numbering = kept;
   header = false;
   load = 0;
@@ -163,12 +161,12 @@ after_frame_end s p segment links kept = record s {
 }
 
 pub takes-frame_end : (s : State) (p : Placed) (told_weight : ℕ) (segment : Collected)
-    (links : List (List Link)) (kept : Option (List ℕ)) (numbers file body : List ℕ) → kept ≡ Some numbers
+    (kept : Option (List ℕ)) (numbers file body : List ℕ) → kept ≡ Some numbers
     → s.closed ≡ false → StandsIn s.segment.order s.at p body file
     → kind_of s.dictionary p.class ≡ FrEndOfFrame
     → IsWeighed (here_in s file) told_weight → first_of frame_end_reasons (here_in s file) ≡ None
-    → Takes (here_in s file) (given.FrameEnd p.at p.class) (after_frame_end s p segment links kept)
-takes-frame_end s p told_weight segment links kept numbers file body ended unclosed stands kind_is w none =
+    → Takes (here_in s file) (given.FrameEnd p.at p.class) (after_frame_end s p segment kept)
+takes-frame_end s p told_weight segment kept numbers file body ended unclosed stands kind_is w none =
     let h : Here = here_in s file in
     let is : kind h ≡ FrEndOfFrame = kind-here h p stands.placed ∙ kind_is in
     record {
@@ -241,6 +239,20 @@ record-judged s p file body unclosed stands target =
     let h : Here = here_in s file in
     fault-kind h p unclosed stands.placed
     ∙ record-parts h (fits-here h p stands.placed) (ap is_target_kind (kind-here h p stands.placed) ∙ target)
+
+-- a record that may not stand by its body or its weight
+pub record-refused : {N : Type 0} (s : State) (p : Placed) (result : Result N ReadError) (error : ReadError)
+    (new : State) (file body : List ℕ) → s.closed ≡ false → StandsIn s.segment.order s.at p body file
+    → is_target_kind (kind_of s.dictionary p.class) ≡ true → result ≡ Err error
+    → ((fault : Fault) → result ≡ Err (errors.Fault fault)
+    → first_of weighing_reasons (here_in s file) ≡ Some fault)
+    → (result ≡ Err errors.Device → ⊥) → Answers (here_in s file) (Err error) new
+record-refused s p result (errors.Fault f) new file body unclosed stands target failed told device =
+    record-judged s p file body unclosed stands target
+    ∙ first_of-front weighing_reasons record_reasons (here_in s file) f (told f failed)
+record-refused s p result errors.Device new file body unclosed stands target failed told device =
+    absurd (device failed)
+record-refused s p result errors.NoMemory new file body unclosed stands target failed told device = tt
 
 -- what is added is not held, and what is refused for it is
 pub added-new : (result : Result ℕ SegmentFault) (k : ℕ) (held : Bool) → result ≡ Ok k

@@ -19,7 +19,7 @@ use Rattle.item_reader.specs.declared.looked.Looked.TheVariants.{Nothing}
 use Rattle.item_reader.specs.declared.structure.Placed.{Placed}
 use Rattle.item_reader.specs.Placed.{placed_at, IsStructureAt}
 use Rattle.item_reader.specs.Looked.{ReadsTo, IsLooked}
-use Rattle.item_reader.specs.State.{IsSound, before_of}
+use Rattle.item_reader.specs.State.{IsSound, HasRows, before_of}
 use Rattle.item_reader.specs.Given.{body_after, entry_given, instance_given, entry_in}
 use Rattle.item_reader.specs.Judged.{Takes}
 use Rattle.item_reader.specs.Reader.{Faults, Collects, IsFileEnd, IsEntry}
@@ -34,10 +34,12 @@ body_in (Some (given.FrameEnd at class)) own segment = option_map_or (λ (r : Bo
 body_in (Some (given.Table at class length)) own segment = own
 body_in (Some (given.FileEnd at class length seek)) own segment = own
 
--- What a reader keeps while there was no error: it fits together, no body is pending, the source stands where the look
--- beyond the place ends, and an entry is lent where the last item is one.
+-- What a reader keeps while there was no error: it fits together, the links of the open frame's records stand beside it,
+-- no body is pending, the source stands where the look beyond the place ends, and an entry is lent where the last item is
+-- one.
 pub record Keeps (c : Cursor) (last : Option Given) : Type 0 where
   pub sound : IsSound c.state
+  pub rows : HasRows c.state c.links
   pub pending : c.state.segment.pending ≡ []
   pub read : ReadsTo c.state.at c.looked c.source.at
   pub closed : c.state.closed ≡ true → (item : Given) × (last ≡ Some item) × IsFileEnd item
@@ -48,6 +50,7 @@ pub record Keeps (c : Cursor) (last : Option Given) : Type 0 where
 pub record IsReady (outside : Outside) (c : Cursor) : Type 0 where
   pub stands : Stands outside c.source
   pub sound : IsSound c.state
+  pub rows : HasRows c.state c.links
   pub pending : c.state.segment.pending ≡ []
   pub unclosed : c.state.closed ≡ false
   pub read : ReadsTo c.state.at c.looked c.source.at
@@ -74,6 +77,7 @@ InFile outside c P =
 pub record HasPassed (outside : Outside) (c : Cursor) (p : Placed) : Type 0 where
   pub stands : Stands outside c.source
   pub sound : IsSound c.state
+  pub rows : HasRows c.state c.links
   pub pending : c.state.segment.pending ≡ []
   pub unclosed : c.state.closed ≡ false
   pub frame : c.state.numbering ≡ None

@@ -10,6 +10,7 @@ use Rattle.layout_plan.specs.declared.fields.Field.{Field}
 use Rattle.layout_plan.specs.Body.{values_length}
 use Rattle.layout_plan.specs.Plans.{plan_of}
 use Rattle.link_graph.specs.declared.nodes.Node.{Node}
+use Rattle.link_graph.specs.Collected.{Bodied}
 use Rattle.link_graph.specs.Graph.{graph_of}
 use Rattle.rooted_graph.specs.Rooted.{Rooted}
 use Rattle.rooted_graph.specs.BreadthOrder.{IsBreadthOrder}
@@ -198,6 +199,10 @@ pub record HasOrder (g : Rooted) (kept : Option (List ℕ)) : Type 0 where
   pub numbers : List ℕ
   pub is : kept ≡ Some numbers
   pub breadth : IsBreadthOrder g numbers
+
+-- the record that the pending body is of
+abbrev pub pending_record : State → Placed → Bodied
+pending_record s p = record { node = node_by s.dictionary p; body = s.segment.pending }
 
 -- A frame has ended: its records are those that were open, with the end record, and a breadth-first order goes with it.
 pub record EndsFrame (old : State) (p : Placed) (new : State) : Type 0 where

@@ -5,7 +5,9 @@ use Rattle.dictionary.specs.declared.entries.Entry.{Entry}
 use Rattle.layout_plan.specs.Plans.{plan_of}
 use Rattle.layout_plan.specs.BuiltIn.{structure_fields, element_fields}
 use Rattle.link_graph.specs.declared.nodes.Node.{Node}
+use Rattle.type_text.specs.declared.types.Link.{Link}
 use Rattle.link_graph.specs.Collected.{Bodied, Collected}
+use Rattle.link_graph.specs.Graph.{all_links}
 use Rattle.file_grammar.specs.Structure.{Structure, record_limit, file_limit}
 use Rattle.file_grammar.specs.Record.{layout_in, reading_of}
 use Rattle.file_grammar.specs.Item.{Before}
@@ -91,3 +93,12 @@ pub record IsSound (s : State) : Type 0 where
   pub load : s.load ≤ record_limit
   pub frames : s.frames ≤ frames_limit
   pub records : s.records ≤ s.at
+
+-- The rows are the links of the open frame's records; where a frame has ended, there are none.
+pub record HasRows (s : State) (rows : List (List Link)) : Type 0 where
+  pub open_is : s.numbering ≡ None → rows ≡ all_links s.plans s.segment
+  pub ended_is : IsSome s.numbering → rows ≡ []
+
+-- the links of the open frame's records are the same
+abbrev pub KeepsRows : State → State → Type 0
+KeepsRows old new = (rows : List (List Link)) → HasRows old rows → HasRows new rows

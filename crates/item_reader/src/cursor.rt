@@ -15,7 +15,7 @@ ghost use Rattle.item_reader.specs.Placed.{IsStructureAt, IsPlaced, StandsIn, bo
 ghost use Rattle.item_reader.specs.Looked.{ReadsTo, IsWithinLook, look};
 ghost use Rattle.item_reader.specs.Judged.{InEachFile, IsKept, ClosesBy, body_reasons};
 ghost use Rattle.item_reader.specs.Entries.{Begins};
-ghost use Rattle.item_reader.specs.State.{IsSound, before_of};
+ghost use Rattle.item_reader.specs.State.{IsSound, HasRows, before_of};
 ghost use Rattle.item_reader.specs.Cursor.{IsReady, HasPassed, InFile, GivesNext, table_body};
 ghost use Rattle.item_reader.specs.Given.{entry_in};
 ghost use Rattle.item_reader.specs.Reader.{IsEntry};
@@ -30,6 +30,7 @@ use dictionary::Entry;
 use file_grammar::{Fault, Kind, Reason, size_reason};
 use frame_head::{Common, HEAD_SIZE};
 use frame_outside::Shelf;
+use link_graph::FrameLinks;
 use structure_source::{Head, StructureSource};
 
 /// A place in a file that is read, and what stands before it.
@@ -37,6 +38,8 @@ use structure_source::{Head, StructureSource};
 pub struct Cursor {
     pub source: StructureSource,
     pub state: State,
+    /// The links of the open frame's records, each read with its record.
+    pub links: FrameLinks,
     /// The body of the last structure that is no record of a frame.
     pub own: Vec<u8>,
     /// What was looked at beyond the place reached.
@@ -53,6 +56,7 @@ impl Cursor {
         requires { IsReady (S.outside shelf.old) self.old }
         ensures answers { InFile (S.outside shelf.old) self.old (λ h. GivesNext h result self.new) }
         ensures kept { OnOk result (IsKept self.old.state self.new.state) }
+        ensures rows { OnOk result (HasRows self.new.state self.new.links) }
         ensures moved { OnOk result (self.old.state.at < self.new.state.at) }
         ensures read { OnOk result (ReadsTo self.new.state.at self.new.looked self.new.source.at) }
         ensures closed { IfOk result (λ item. ClosesBy item self.new.state.closed) }
@@ -81,6 +85,7 @@ impl Cursor {
         requires { HasPassed (S.outside shelf.old) self.old placed }
         ensures answers { InFile (S.outside shelf.old) self.old (λ h. GivesNext h result self.new) }
         ensures kept { OnOk result (IsKept self.old.state self.new.state) }
+        ensures rows { OnOk result (HasRows self.new.state self.new.links) }
         ensures moved { OnOk result (self.old.state.at < self.new.state.at) }
         ensures read { OnOk result (ReadsTo self.new.state.at self.new.looked self.new.source.at) }
         ensures closed { IfOk result (λ item. ClosesBy item self.new.state.closed) }
@@ -144,6 +149,7 @@ impl Cursor {
         requires kind { kind_of self.old.state.dictionary head.class ≡ variant.FrSH }
         ensures answers { InFile (S.outside shelf.old) self.old (λ h. GivesNext h result self.new) }
         ensures kept { OnOk result (IsKept self.old.state self.new.state) }
+        ensures rows { OnOk result (HasRows self.new.state self.new.links) }
         ensures moved { OnOk result (self.old.state.at < self.new.state.at) }
         ensures read { OnOk result (ReadsTo self.new.state.at self.new.looked self.new.source.at) }
         ensures closed { IfOk result (λ item. ClosesBy item self.new.state.closed) }
@@ -231,6 +237,7 @@ impl Cursor {
         requires kind { kind_of self.old.state.dictionary table.class ≡ variant.FrTOC }
         ensures answers { InFile (S.outside shelf.old) self.old (λ h. GivesNext h result self.new) }
         ensures kept { OnOk result (IsKept self.old.state self.new.state) }
+        ensures rows { OnOk result (HasRows self.new.state self.new.links) }
         ensures moved { OnOk result (self.old.state.at < self.new.state.at) }
         ensures read { OnOk result (ReadsTo self.new.state.at self.new.looked self.new.source.at) }
         ensures closed { IfOk result (λ item. ClosesBy item self.new.state.closed) }
@@ -257,6 +264,7 @@ impl Cursor {
         requires kind { kind_of self.old.state.dictionary end.class ≡ variant.FrEndOfFile }
         ensures answers { InFile (S.outside shelf.old) self.old (λ h. GivesNext h result self.new) }
         ensures kept { OnOk result (IsKept self.old.state self.new.state) }
+        ensures rows { OnOk result (HasRows self.new.state self.new.links) }
         ensures moved { OnOk result (self.old.state.at < self.new.state.at) }
         ensures read { OnOk result (ReadsTo self.new.state.at self.new.looked self.new.source.at) }
         ensures closed { IfOk result (λ item. ClosesBy item self.new.state.closed) }
@@ -284,6 +292,7 @@ impl Cursor {
         requires kind { kind_of self.old.state.dictionary placed.class ≡ variant.FrEndOfFrame }
         ensures answers { InFile (S.outside shelf.old) self.old (λ h. GivesNext h result self.new) }
         ensures kept { OnOk result (IsKept self.old.state self.new.state) }
+        ensures rows { OnOk result (HasRows self.new.state self.new.links) }
         ensures moved { OnOk result (self.old.state.at < self.new.state.at) }
         ensures read { OnOk result (ReadsTo self.new.state.at self.new.looked self.new.source.at) }
         ensures closed { IfOk result (λ item. ClosesBy item self.new.state.closed) }
@@ -297,7 +306,7 @@ impl Cursor {
             (λ h. IsWithinLook h.order h.file h.before.place (bytes_drawn self.new.source))) }
     {
         self.bring_record(shelf, placed)?;
-        self.state.take_frame_end(placed)
+        self.state.take_frame_end(&mut self.links, placed)
     }
 
     /// Takes any other record of a frame.
@@ -313,6 +322,7 @@ impl Cursor {
         requires target { is_target_kind kind ≡ true }
         ensures answers { InFile (S.outside shelf.old) self.old (λ h. GivesNext h result self.new) }
         ensures kept { OnOk result (IsKept self.old.state self.new.state) }
+        ensures rows { OnOk result (HasRows self.new.state self.new.links) }
         ensures moved { OnOk result (self.old.state.at < self.new.state.at) }
         ensures read { OnOk result (ReadsTo self.new.state.at self.new.looked self.new.source.at) }
         ensures closed { IfOk result (λ item. ClosesBy item self.new.state.closed) }
@@ -326,7 +336,7 @@ impl Cursor {
             (λ h. IsWithinLook h.order h.file h.before.place (bytes_drawn self.new.source))) }
     {
         self.bring_record(shelf, placed)?;
-        self.state.take_record(placed, kind)
+        self.state.take_record(&mut self.links, placed, kind)
     }
 
     /// Brings the body of a record of a frame. One that is longer than the frame may weigh is passed over.

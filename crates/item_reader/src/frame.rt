@@ -1,7 +1,7 @@
 //! The frame that is open: a record that joins it, and its end.
 
 ghost use Rattle.std.specs.Prelude.{◌≡◌, ◌<◌, ℕ, List, true, None, Some, Err, OnOk};
-ghost use Rattle.link_graph.specs.Graph.{first_loose, graph_of};
+ghost use Rattle.link_graph.specs.Graph.{all_links, first_loose, graph_of};
 ghost use Rattle.file_grammar.specs.declared.kind.Kind.TheVariants as variant;
 ghost use Rattle.file_grammar.specs.Kind.{kind_of, is_target_kind};
 ghost use Rattle.file_grammar.specs.declared.reason.Reason.TheVariants as reason;
@@ -17,7 +17,7 @@ use crate::state::State;
 use crate::structure::Placed;
 use file_grammar::{FRAMES_LIMIT, Fault, Kind, Reason};
 use layout_plan::link_field;
-use link_graph::CloseFault;
+use link_graph::{CloseFault, FrameLinks};
 
 impl State {
     /// Why a record that is no end record and has no twin in the open frame may not stand in it.
@@ -37,8 +37,9 @@ impl State {
     }
 
     /// Ends the open frame, where it may end here: its breadth-first order is kept from then on.
-    pub fn close_frame(&mut self, placed: Placed) -> Result<(), ReadError>
+    pub fn close_frame(&mut self, links: &mut FrameLinks, placed: Placed) -> Result<(), ReadError>
         requires sound { IsSound self.old }
+        requires rows { links.old ≡ all_links self.old.plans self.old.segment }
         requires open { self.old.numbering ≡ None }
         requires here { IsStructureAt self.old.at placed }
         requires kind { kind_of self.old.dictionary placed.class ≡ variant.FrEndOfFrame }
@@ -49,18 +50,14 @@ impl State {
         ensures no_device { result ≡ Err ReadError.Device → ⊥ }
         ensures order { OnOk result (HasOrder (graph_of self.old.plans self.old.segment) self.new.numbering) }
         ensures few { OnOk result (self.old.frames < frames_limit) }
-        ensures rest { self.new ≡ record self.old {
-          links = self.new.links;
-          numbering = self.new.numbering;
-        } }
+        ensures rest { self.new ≡ record self.old { numbering = self.new.numbering } }
     {
         if !self.header {
             return Err(self.fault(Reason::NoFrameH).into());
         }
         // Judged while the frame is open, and told after its loose link.
         let later = self.place_fault(placed);
-        self.segment.read_links(&self.plans, &mut self.links)?;
-        match self.numbering.close(&self.segment, &mut self.links) {
+        match self.numbering.close(&self.segment, links) {
             Ok(()) => {}
             Err(CloseFault::LooseLink { node, link }) => {
                 return Err(self.loose_fault(node, link).into());

@@ -27,7 +27,7 @@ use dictionary::{Dictionary, Entry};
 use file_grammar::Fault;
 use frame_outside::Shelf;
 use layout_plan::Plans;
-use link_graph::{Numbering, Segment};
+use link_graph::{FrameLinks, Numbering, Segment};
 use scalar_types::Order;
 use std::alloc::Global;
 use std::marker::Model;
@@ -102,6 +102,7 @@ impl ItemReader {
         let cursor = Cursor {
             source,
             state: State::new(alloc, order)?,
+            links: FrameLinks::new(alloc),
             own: Vec::new(alloc),
             looked: Looked::Nothing,
             kept: None,

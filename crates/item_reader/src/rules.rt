@@ -5,10 +5,11 @@
 
 ghost use Rattle.std.specs.Prelude.{◌≡◌, ◌+◌, ◌^◌, ◌≤◌, ◌<◌, ◌||◌, ℕ, List, [], None, Some, true, false, not};
 ghost use Rattle.std.specs.Prelude.{nat_lt, codes};
-ghost use Rattle.std.specs.Prelude.{length, IfOk, IfErr, IfSome, OnOk, IsSome};
+ghost use Rattle.std.specs.Prelude.{length, IfOk, IfErr, IfSome, OnOk, IsSome, Err, ◌++◌, ◌∷◌};
 ghost use Rattle.std.specs.Option.{option_map_or};
 ghost use Rattle.dictionary.specs.Dictionary.{entry_of, IsDictionary};
 ghost use Rattle.layout_plan.specs.Body.{HasBody};
+ghost use Rattle.link_graph.specs.Graph.{links_of};
 ghost use Rattle.file_grammar.specs.declared.kind.Kind.TheVariants as variant;
 ghost use Rattle.file_grammar.specs.Structure.{record_limit, file_limit};
 ghost use Rattle.file_grammar.specs.Kind.{kind_of, is_frame_kind, is_table_kind};
@@ -21,14 +22,16 @@ ghost use Rattle.item_reader.specs.Placed.{IsStructureAt, structure_by};
 ghost use Rattle.item_reader.specs.State.{IsSound, frame_of};
 ghost use Rattle.item_reader.specs.Judged.{InEachFile, ReadsHere, is_read_kind, body_reasons, reading_reasons};
 ghost use Rattle.item_reader.specs.Judged.{weighing_reasons, place_reasons, table_reasons, count_reasons};
-ghost use Rattle.item_reader.specs.Judged.{closing_reasons, IsReadBy, IsRead, IsWeighed};
+ghost use Rattle.item_reader.specs.Judged.{closing_reasons, IsReadBy, IsRead, IsWeighed, pending_record};
 
+use crate::item::ReadError;
 use crate::state::State;
 use crate::structure::Placed;
 use dictionary::{Element, first_named};
 use file_grammar::closing::{BYTES, FRAMES, TABLE, closes};
 use file_grammar::{FILE_LIMIT, Fault, RECORD_LIMIT, Reason};
 use layout_plan::{BodyFault, BodyReason, Measured, Plan, measure, num_at};
+use link_graph::FrameLinks;
 
 impl State {
     /// Whether a record's length alone passes what the open frame may weigh.
@@ -58,7 +61,75 @@ impl State {
             × (self.now.load + weight ≤ record_limit)) }
     {
         let measured = self.read(placed, self.segment.pending())?;
-        let weight = placed.length.saturating_add(measured.zero_texts);
+        self.weight(placed, measured.zero_texts)
+    }
+
+    /// The same, where the links of the record are put as a row behind the others.
+    #[inline(always)]
+    pub fn weigh_links(&self, links: &mut FrameLinks, placed: Placed) -> Result<u64, ReadError>
+        requires sound { IsSound self.now }
+        requires here { IsStructureAt self.now.at placed }
+        requires size { placed.length ≡ 14 + length self.now.segment.pending }
+        requires kind { is_frame_kind (kind_of self.now.dictionary placed.class) ≡ true }
+        requires fits { self.now.load + placed.length ≤ record_limit }
+        ensures ok { IfOk result (λ weight. InEachFile self.now placed self.now.segment.pending
+            (λ h. IsWeighed h weight)) }
+        ensures fault { (fault : Fault) → result ≡ Err (ReadError.Fault fault)
+            → InEachFile self.now placed self.now.segment.pending (λ h. first_of weighing_reasons h ≡ Some fault) }
+        ensures no_device { result ≡ Err ReadError.Device → ⊥ }
+        ensures reads { OnOk result (IsSome (reading_of self.now.segment.order self.now.dictionary
+            (structure_by placed self.now.segment.pending))) }
+        ensures within { IfOk result (λ weight. (placed.length ≤ weight)
+            × (self.now.load + weight ≤ record_limit)) }
+        ensures row { OnOk result (links.new ≡ links.old ++ links_of self.now.plans self.now.segment.order
+            (pending_record self.now placed) ∷ []) }
+    {
+        let measured = self.read_links(links, placed)?;
+        Ok(self.weight(placed, measured.zero_texts)?)
+    }
+
+    /// What is measured of the pending body, where it reads by the layout of its class; its links are put as a
+    /// row behind the others.
+    #[inline(always)]
+    fn read_links(&self, links: &mut FrameLinks, placed: Placed) -> Result<Measured, ReadError>
+        requires sound { IsSound self.now }
+        requires here { IsStructureAt self.now.at placed }
+        requires size { placed.length ≡ 14 + length self.now.segment.pending }
+        requires kind { is_read_kind (kind_of self.now.dictionary placed.class) ≡ true }
+        ensures ok { IfOk result (λ m. InEachFile self.now placed self.now.segment.pending
+            (λ h. IsRead h m.zero_texts)) }
+        ensures fault { (fault : Fault) → result ≡ Err (ReadError.Fault fault)
+            → InEachFile self.now placed self.now.segment.pending (λ h. first_of reading_reasons h ≡ Some fault) }
+        ensures no_device { result ≡ Err ReadError.Device → ⊥ }
+        ensures reads { OnOk result (IsSome (reading_of self.now.segment.order self.now.dictionary
+            (structure_by placed self.now.segment.pending))) }
+        ensures row { OnOk result (links.new ≡ links.old ++ links_of self.now.plans self.now.segment.order
+            (pending_record self.now placed) ∷ []) }
+    {
+        let Some(plan) = self.plans.plan(placed.class) else {
+            return Err(self.unread_fault(placed).into());
+        };
+        match links.add(plan, self.order(), self.segment.pending())? {
+            Ok(measured) => Ok(measured),
+            Err(fault) => Err(self.body_fault(fault).into()),
+        }
+    }
+
+    /// The weight of a record that has so many texts spelled by a length of 0 alone, where it may stand here by
+    /// its weight.
+    fn weight(&self, placed: Placed, zero_texts: u64) -> Result<u64, Fault>
+        requires sound { IsSound self.now }
+        requires here { IsStructureAt self.now.at placed }
+        requires kind { is_frame_kind (kind_of self.now.dictionary placed.class) ≡ true }
+        requires fits { self.now.load + placed.length ≤ record_limit }
+        ensures ok { IfOk result (λ weight. (body : List ℕ) → InEachFile self.now placed body
+            (λ h. IsRead h zero_texts → IsWeighed h weight)) }
+        ensures fault { IfErr result (λ fault. (body : List ℕ) → InEachFile self.now placed body
+            (λ h. IsRead h zero_texts → first_of weighing_reasons h ≡ Some fault)) }
+        ensures within { IfOk result (λ weight. (placed.length ≤ weight)
+            × (self.now.load + weight ≤ record_limit)) }
+    {
+        let weight = placed.length.saturating_add(zero_texts);
         if weight > RECORD_LIMIT {
             return Err(self.fault(Reason::RecordLimit));
         }

@@ -4,12 +4,12 @@ ghost use Rattle.std.specs.Prelude.{◌≡◌, [], IfOk, None};
 ghost use Rattle.layout_plan.specs.BuiltIn.{structure_fields, element_fields};
 ghost use Rattle.link_graph.specs.Collected.{nothing_in};
 ghost use Rattle.file_grammar.specs.Item.{nothing_yet};
-ghost use Rattle.item_reader.specs.State.{IsSound, before_of};
+ghost use Rattle.item_reader.specs.State.{IsSound, KeepsRows, before_of};
 
 use crate::ended::EndedOrder;
 use crate::roles::Classes;
 use layout_plan::{Plan, Plans, element_plan, structure_plan};
-use link_graph::{FrameLinks, Segment};
+use link_graph::Segment;
 use scalar_types::Order;
 use std::alloc::{AllocError, Global};
 
@@ -31,8 +31,6 @@ pub struct State {
     pub built_in: BuiltIn,
     /// The frame that is open, or, where there is a numbering, the one that has just ended.
     pub segment: Segment,
-    /// Room for the links of a frame's records.
-    pub links: FrameLinks,
     /// The breadth-first order of the frame that has just ended.
     pub numbering: EndedOrder,
     /// Whether the open frame has a FrameH.
@@ -66,7 +64,6 @@ impl State {
                 element: element_plan(alloc)?,
             },
             segment: Segment::new(alloc, order),
-            links: FrameLinks::new(alloc),
             numbering: EndedOrder::new(alloc),
             header: false,
             load: 0,
@@ -92,6 +89,7 @@ impl State {
         ensures open { self.new.numbering ≡ None }
         ensures pending { self.old.segment.pending ≡ [] → self.new.segment.pending ≡ [] }
         ensures order { self.new.segment.order ≡ self.old.segment.order }
+        ensures rows { KeepsRows self.old self.new }
     {
         if self.numbering.is_some() {
             self.numbering.forget();

@@ -11,7 +11,7 @@ ghost use Rattle.file_grammar.specs.Kind.{kind_of, is_target_kind};
 ghost use Rattle.file_grammar.specs.Fault.{fault_at, first_of};
 ghost use Rattle.file_grammar.specs.Steps.{refusal_reason};
 ghost use Rattle.item_reader.specs.Placed.{IsStructureAt, StandsIn};
-ghost use Rattle.item_reader.specs.State.{IsSound, here_in};
+ghost use Rattle.item_reader.specs.State.{IsSound, HasRows, KeepsRows, here_in};
 ghost use Rattle.item_reader.specs.Judged.{InEachFile, Answers, AnswersHolding, Holds, IsKept, EndsFrame};
 ghost use Rattle.item_reader.specs.Judged.{DescribesEntry, body_reasons, table_reasons, IsOpenStill};
 ghost use Rattle.item_reader.specs.Judged.{ClosesBy, node_by, IsBeside};
@@ -24,7 +24,7 @@ use crate::state::State;
 use crate::structure::Placed;
 use dictionary::{AddFault, Entry};
 use file_grammar::{Kind, Reason};
-use link_graph::{Node, SegmentFault};
+use link_graph::{FrameLinks, Node, SegmentFault};
 use std::alloc::AllocError;
 
 impl State {
@@ -47,6 +47,7 @@ impl State {
         ensures closed { IfOk result (λ item. ClosesBy item self.new.closed) }
         ensures kept { OnOk result (self.old.segment.pending ≡ [] → IsKept self.old self.new) }
         ensures frame { OnOk result (IsOpenStill self.old self.new) }
+        ensures rows { OnOk result (KeepsRows self.old self.new) }
         ensures order { self.new.segment.order ≡ self.old.segment.order }
         ensures short { OnOk result (length entry.elements ≤ 4096) }
         ensures lent { IfOk result (λ item. (kept : Option Entry) → IsBeside self.old.dictionary entry kept
@@ -122,6 +123,7 @@ impl State {
         ensures closed { ClosesBy result self.new.closed }
         ensures kept { self.old.segment.pending ≡ [] → IsKept self.old self.new }
         ensures frame { IsOpenStill self.old self.new }
+        ensures rows { KeepsRows self.old self.new }
         ensures no_entry { IsEntry result → ⊥ }
     {
         self.table = true;
@@ -147,6 +149,7 @@ impl State {
         ensures closed { IfOk result (λ item. ClosesBy item self.new.closed) }
         ensures kept { OnOk result (self.old.segment.pending ≡ [] → IsKept self.old self.new) }
         ensures frame { OnOk result (IsOpenStill self.old self.new) }
+        ensures rows { OnOk result (KeepsRows self.old self.new) }
         ensures order { self.new.segment.order ≡ self.old.segment.order }
         ensures no_entry { IfOk result (λ item. IsEntry item → ⊥) }
     {
@@ -166,8 +169,10 @@ impl State {
     }
 
     /// Takes the end record of a frame, whose body is pending.
-    pub fn take_frame_end(&mut self, placed: Placed) -> Result<Item, ReadError>
+    /// The links of its records are given up.
+    pub fn take_frame_end(&mut self, links: &mut FrameLinks, placed: Placed) -> Result<Item, ReadError>
         requires sound { IsSound self.old }
+        requires rows { HasRows self.old links.old }
         requires open { self.old.closed ≡ false }
         requires frame { self.old.numbering ≡ None }
         requires here { IsStructureAt self.old.at placed }
@@ -180,11 +185,13 @@ impl State {
         ensures closed { IfOk result (λ item. ClosesBy item self.new.closed) }
         ensures kept { OnOk result (IsKept self.old self.new) }
         ensures frame { OnOk result (EndsFrame self.old placed self.new) }
+        ensures rows { OnOk result (HasRows self.new links.new) }
         ensures order { self.new.segment.order ≡ self.old.segment.order }
         ensures no_entry { IfOk result (λ item. IsEntry item → ⊥) }
     {
         self.weigh(placed)?;
-        self.close_frame(placed)?;
+        self.close_frame(links, placed)?;
+        links.clear();
         self.segment.set_end(node(&self.dictionary, placed));
         self.header = false;
         self.load = 0;
@@ -197,10 +204,16 @@ impl State {
         })
     }
 
-    /// Takes any other record of a frame, whose body is pending.
+    /// Takes any other record of a frame, whose body is pending. Its links are put behind those of the others.
     #[inline(always)]
-    pub fn take_record(&mut self, placed: Placed, kind: Kind) -> Result<Item, ReadError>
+    pub fn take_record(
+        &mut self,
+        links: &mut FrameLinks,
+        placed: Placed,
+        kind: Kind,
+    ) -> Result<Item, ReadError>
         requires sound { IsSound self.old }
+        requires rows { HasRows self.old links.old }
         requires open { self.old.closed ≡ false }
         requires frame { self.old.numbering ≡ None }
         requires here { IsStructureAt self.old.at placed }
@@ -214,10 +227,11 @@ impl State {
         ensures closed { IfOk result (λ item. ClosesBy item self.new.closed) }
         ensures kept { OnOk result (IsKept self.old self.new) }
         ensures frame { OnOk result (self.new.numbering ≡ None) }
+        ensures rows { OnOk result (HasRows self.new links.new) }
         ensures order { self.new.segment.order ≡ self.old.segment.order }
         ensures no_entry { IfOk result (λ item. IsEntry item → ⊥) }
     {
-        let weight = self.weigh(placed)?;
+        let weight = self.weigh_links(links, placed)?;
         // Judged before the record joins the frame, and told after InstanceTwice.
         let later = self.record_fault(placed, kind);
         let number = match self.segment.add(node(&self.dictionary, placed)) {

@@ -7,7 +7,7 @@ use Rattle.file_grammar.specs.Fault.{fault_here}
 use Rattle.item_reader.specs.declared.cursor.Cursor.{Cursor}
 use Rattle.item_reader.specs.declared.state.State.{State}
 use Rattle.item_reader.specs.declared.structure.Placed.{Placed}
-use Rattle.item_reader.specs.State.{IsSound, before_of}
+use Rattle.item_reader.specs.State.{IsSound, HasRows, before_of}
 use Rattle.item_reader.specs.Placed.{placed_at}
 use Rattle.item_reader.specs.Looked.{look, IsWithinLook}
 use Rattle.item_reader.specs.Cursor.{GivesNext, IsHeadOf}
@@ -46,6 +46,8 @@ take-requires g c =
     record {
       stands = c.in_ok-common.ensures.stands;
       sound = subst IsSound (sym state_is) c.open_frame.ensures.sound;
+      rows = subst (λ (x : Cursor). HasRows x.state x.links) (sym rest)
+          (c.open_frame.ensures.rows old.links c.requires.rows);
       pending = ap (λ (s : State). s.segment.pending) state_is ∙ c.open_frame.ensures.pending c.requires.pending;
       unclosed = ap (λ (s : State). s.closed) state_is
           ∙ ap (λ (b : Before). b.closed) c.open_frame.ensures.before ∙ c.requires.unclosed;

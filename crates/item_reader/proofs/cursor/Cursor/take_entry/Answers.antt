@@ -1,5 +1,5 @@
 -- An entry: its FrSH, and its run.
-use Rattle.std.proofs.Common.{◌≡◌, ℕ, List, Some, None, refl, ap, ◌∙◌, subst}
+use Rattle.std.proofs.Common.{◌≡◌, ℕ, List, Some, None, refl, sym, ap, ◌∙◌, subst}
 use Rattle.structure_source.specs.Source.{bytes_drawn}
 use Rattle.structure_source.proofs.Going.{goes-more}
 use Rattle.dictionary.specs.declared.entries.Entry.{Entry}
@@ -9,12 +9,13 @@ use Rattle.item_reader.specs.declared.cursor.Cursor.{Cursor}
 use Rattle.item_reader.specs.declared.state.State.{State}
 use Rattle.item_reader.specs.Placed.{StandsIn}
 use Rattle.item_reader.specs.Entries.{IsRun, Begins}
-use Rattle.item_reader.specs.State.{here_in}
+use Rattle.item_reader.specs.State.{HasRows, here_in}
 use Rattle.item_reader.specs.Judged.{InEachFile, DescribesEntry, Answers, body_reasons}
 use Rattle.item_reader.proofs.Located.{kind-here}
 use Rattle.item_reader.proofs.Giving.{refused-in, err-said, err-within}
 use Rattle.item_reader.proofs.Entering.{told-later, describes-entry, entry-ahead, gives-entry}
 use Rattle.item_reader.proofs.Entering.{lent-beside, lends-one}
+use Rattle.item_reader.proofs.Parts.{on_ok-with}
 use Rattle.item_reader.proofs.cursor.Cursor.take_entry.Goals as goal
 
 pub returns-in_err-bring_own-clause-answers : goal.returns-in_err-bring_own-clause-answers
@@ -101,6 +102,7 @@ returns-clause-answers g c = λ reading told.
     gives-entry h c.bring_own.new.self.state run.end c.take_entry.result (record {
       source = c.read_run.new.source;
       state = c.take_entry.new.self;
+      links = c.bring_own.new.self.links;
       own = c.read_run.new.own;
       looked = run.looked;
       kept = c.in_ok-self.field-0;
@@ -134,3 +136,9 @@ returns-clause-lends g c =
     lends-one c.take_entry.result entry c.in_ok-self.field-0 c.take_entry.new.self.dictionary
     (lent-beside c.take_entry.result entry c.bring_own.new.self.state.dictionary c.in_ok-self.field-0
     c.take_entry.new.self.dictionary c.take_entry.ensures.lent c.in_ok-self.ensures)
+
+pub returns-clause-rows : goal.returns-clause-rows
+returns-clause-rows g c =
+    let has : HasRows c.bring_own.new.self.state c.bring_own.new.self.links =
+    subst (λ (x : Cursor). HasRows x.state x.links) (sym c.in_ok-bring_own.ensures.rest) c.requires.passed.rows in
+    on_ok-with c.take_entry.result _ _ (λ keeps. keeps c.bring_own.new.self.links has) c.take_entry.ensures.rows

@@ -6,7 +6,7 @@ use Rattle.file_grammar.specs.declared.kind.Kind.TheVariants.{FrEndOfFile}
 use Rattle.file_grammar.specs.Fault.{Here, kind}
 use Rattle.item_reader.specs.declared.cursor.Cursor.{Cursor}
 use Rattle.item_reader.specs.declared.state.State.{State}
-use Rattle.item_reader.specs.State.{here_in}
+use Rattle.item_reader.specs.State.{HasRows, here_in}
 use Rattle.item_reader.specs.Cursor.{GivesNext}
 use Rattle.item_reader.proofs.Located.{kind-here}
 use Rattle.item_reader.proofs.Giving.{refused-in, within, err-within, looked-nothing}
@@ -114,3 +114,9 @@ returns-clause-answers g c = λ reading told.
     (last.0 ∙ there))
     (sym there ∙ last.1)
     (ap (λ (x : Cursor). x.instance) c.in_ok-bring_own.ensures.rest ∙ c.requires.passed.instance)
+
+pub returns-clause-rows : goal.returns-clause-rows
+returns-clause-rows g c =
+    let has : HasRows c.bring_own.new.self.state c.bring_own.new.self.links =
+    subst (λ (x : Cursor). HasRows x.state x.links) (sym c.in_ok-bring_own.ensures.rest) c.requires.passed.rows in
+    c.in_ok-item.ensures.rows c.bring_own.new.self.links has

@@ -5,10 +5,11 @@ use Rattle.item_reader.specs.declared.cursor.Cursor.{Cursor}
 use Rattle.item_reader.specs.declared.state.State.{State}
 use Rattle.item_reader.specs.Placed.{StandsIn}
 use Rattle.item_reader.specs.Judged.{Answers}
-use Rattle.item_reader.specs.State.{here_in}
+use Rattle.item_reader.specs.State.{HasRows, here_in}
 use Rattle.item_reader.proofs.Located.{kind-here}
 use Rattle.item_reader.proofs.Giving.{refused-in, err-within, looked-nothing}
 use Rattle.item_reader.proofs.Recording.{gives-answers, gives-frame_end, on-ok}
+use Rattle.item_reader.proofs.Rows.{rows-same}
 use Rattle.item_reader.proofs.cursor.Cursor.take_frame_end.Goals as goal
 
 pub returns-in_err-bring_record-clause-answers : goal.returns-in_err-bring_record-clause-answers
@@ -33,7 +34,7 @@ returns-clause-answers g c = λ reading told.
     let p = c.args.placed in
     let h : Here = here_in s reading.opened in
     let brought : State = c.bring_record.new.self.state in
-    let new : Cursor = record c.bring_record.new.self { state = c.take_frame_end.new.self } in
+    let new : Cursor = record c.bring_record.new.self { state = c.take_frame_end.new.self; links = c.take_frame_end.new.links } in
     let here_is : here_in brought reading.opened ≡ h = λ i. record {
       order = c.in_ok-bring_record.ensures.segment.0 i;
       file = reading.opened;
@@ -61,3 +62,13 @@ returns-clause-answers g c = λ reading told.
     ∙ ap (λ (x : Cursor). x.state.at + p.length) rest)))
     (rw is at c.take_frame_end.ensures.closed)
     (ap (λ (x : Cursor). x.instance) rest ∙ c.requires.passed.instance))
+
+pub take_frame_end-requires-clause-rows : goal.take_frame_end-requires-clause-rows
+take_frame_end-requires-clause-rows g c =
+    let old : Cursor = c.args.self.now in
+    let new : Cursor = c.bring_record.new.self in
+    let rest = c.in_ok-bring_record.ensures.rest in
+    let segment = c.in_ok-bring_record.ensures.segment in
+    subst (HasRows new.state) (sym (ap (λ (x : Cursor). x.links) rest))
+    (rows-same old.state new.state (ap (λ (x : Cursor). x.state.plans) rest) segment.0 segment.1
+    (ap (λ (x : Cursor). x.state.numbering) rest) old.links c.requires.passed.rows)

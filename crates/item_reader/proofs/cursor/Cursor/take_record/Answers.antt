@@ -6,10 +6,11 @@ use Rattle.item_reader.specs.declared.cursor.Cursor.{Cursor}
 use Rattle.item_reader.specs.declared.state.State.{State}
 use Rattle.item_reader.specs.Placed.{StandsIn}
 use Rattle.item_reader.specs.Judged.{Answers}
-use Rattle.item_reader.specs.State.{here_in}
+use Rattle.item_reader.specs.State.{HasRows, here_in}
 use Rattle.item_reader.proofs.Located.{kind-here}
 use Rattle.item_reader.proofs.Giving.{refused-in, err-within, looked-nothing}
 use Rattle.item_reader.proofs.Recording.{gives-answers, gives-record, on-ok}
+use Rattle.item_reader.proofs.Rows.{rows-same}
 use Rattle.item_reader.proofs.cursor.Cursor.take_record.Goals as goal
 
 pub returns-in_err-bring_record-clause-answers : goal.returns-in_err-bring_record-clause-answers
@@ -34,7 +35,7 @@ returns-clause-answers g c = λ reading told.
     let p = c.args.placed in
     let h : Here = here_in s reading.opened in
     let brought : State = c.bring_record.new.self.state in
-    let new : Cursor = record c.bring_record.new.self { state = c.take_record.new.self } in
+    let new : Cursor = record c.bring_record.new.self { state = c.take_record.new.self; links = c.take_record.new.links } in
     let here_is : here_in brought reading.opened ≡ h = λ i. record {
       order = c.in_ok-bring_record.ensures.segment.0 i;
       file = reading.opened;
@@ -60,3 +61,13 @@ returns-clause-answers g c = λ reading told.
     ∙ ap (λ (x : Cursor). x.state.at + p.length) rest)))
     (rw is at c.take_record.ensures.closed)
     (ap (λ (x : Cursor). x.instance) rest ∙ c.requires.passed.instance))
+
+pub take_record-requires-clause-rows : goal.take_record-requires-clause-rows
+take_record-requires-clause-rows g c =
+    let old : Cursor = c.args.self.now in
+    let new : Cursor = c.bring_record.new.self in
+    let rest = c.in_ok-bring_record.ensures.rest in
+    let segment = c.in_ok-bring_record.ensures.segment in
+    subst (HasRows new.state) (sym (ap (λ (x : Cursor). x.links) rest))
+    (rows-same old.state new.state (ap (λ (x : Cursor). x.state.plans) rest) segment.0 segment.1
+    (ap (λ (x : Cursor). x.state.numbering) rest) old.links c.requires.passed.rows)

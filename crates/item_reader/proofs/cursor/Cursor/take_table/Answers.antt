@@ -3,7 +3,7 @@ use Rattle.std.proofs.Common.{◌≡◌, ◌+◌, Ok, None, refl, sym, ap, ◌�
 use Rattle.file_grammar.specs.declared.kind.Kind.TheVariants.{FrTOC}
 use Rattle.file_grammar.specs.Fault.{Here, place, kind, first_of}
 use Rattle.item_reader.specs.Placed.{body_of}
-use Rattle.item_reader.specs.State.{here_in}
+use Rattle.item_reader.specs.State.{HasRows, here_in}
 use Rattle.item_reader.proofs.Located.{kind-here, fault-kind}
 use Rattle.item_reader.proofs.Parts.{table-parts}
 use Rattle.item_reader.specs.declared.cursor.Cursor.{Cursor}
@@ -69,3 +69,9 @@ returns-clause-answers g c = λ reading told.
     ∙ ap (λ (x : State). x.at + p.length) state_is)))
     c.take_table.ensures.closed
     (ap (λ (x : Cursor). x.instance) c.in_ok-bring_table.ensures.rest ∙ c.requires.passed.instance)
+
+pub returns-clause-rows : goal.returns-clause-rows
+returns-clause-rows g c =
+    let has : HasRows c.bring_table.new.self.state c.bring_table.new.self.links =
+    subst (λ (x : Cursor). HasRows x.state x.links) (sym c.in_ok-bring_table.ensures.rest) c.requires.passed.rows in
+    c.take_table.ensures.rows c.bring_table.new.self.links has

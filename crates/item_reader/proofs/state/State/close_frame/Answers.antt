@@ -12,7 +12,7 @@ use Rattle.item_reader.specs.declared.structure.Placed.{Placed}
 use Rattle.item_reader.specs.Judged.{InEachFile, place_reasons, frame_end_reasons}
 use Rattle.item_reader.specs.State.{IsSound, open_records, here_in}
 use Rattle.item_reader.proofs.Located.{class-here}
-use Rattle.item_reader.proofs.FrameLinks.{all-read, none-loose}
+use Rattle.item_reader.proofs.FrameLinks.{none-loose}
 use Rattle.item_reader.proofs.FrameParts.{header-kept, end-linked, end-misplaced, end-full, end-stands}
 use Rattle.item_reader.proofs.state.State.close_frame.Goals as goal
 
@@ -34,16 +34,10 @@ linked-end s sound unended header linked p kind_is body file stands =
           ∙ none-loose s.plans s.segment.order s.dictionary s.segment.nodes sound.plans linked),
     )
 
-pub read_links-requires : goal.read_links-requires
-read_links-requires c =
-    let s = c.args.self.now in
-    all-read s.plans s.segment.order s.dictionary s.segment.nodes c.requires.sound.plans
-    c.requires.sound.nodes
-
 pub close-requires : goal.close-requires
 close-requires c =
     let s = c.args.self.now in
-    ap (λ (rows : List (List Link)). length rows) c.in_ok-read_links.ensures
+    ap (λ (rows : List (List Link)). length rows) c.requires.rows
     ∙ length-map s.segment.nodes (links_of s.plans s.segment.order)
 
 pub returns-in-Some-clause-fault : goal.returns-in-Some-clause-fault
@@ -51,7 +45,7 @@ returns-in-Some-clause-fault c = λ body fault is file stands.
     let s = c.args.self.now in
     let h = here_in s file in
     let end = linked-end s c.requires.sound c.requires.«open» c.if-not-self.false
-    (c.in-Ok.ensures.linked s.plans c.in_ok-read_links.ensures) c.args.placed c.requires.kind body file stands in
+    (c.in-Ok.ensures.linked s.plans c.requires.rows) c.args.placed c.requires.kind body file stands in
     let same : c.in-Some.fault ≡ fault = cc in
     end-misplaced h fault end.1
     (c.place_fault-later.ensures.fault body file stands ∙ c.in-Some.is ∙ ap Some same)
@@ -62,7 +56,7 @@ returns-then-self-ge-FRAMES_LIMIT-clause-fault c = λ body fault is file stands.
     let s = c.args.self.now in
     let h = here_in s file in
     let end = linked-end s c.requires.sound c.requires.«open» c.if-not-self.false
-    (c.in-Ok.ensures.linked s.plans c.in_ok-read_links.ensures) c.args.placed c.requires.kind body file stands in
+    (c.in-Ok.ensures.linked s.plans c.requires.rows) c.args.placed c.requires.kind body file stands in
     let same : c.fault-then-self-ge-FRAMES_LIMIT.result ≡ fault = cc in
     end-full h end.0 end.1 (c.place_fault-later.ensures.fault body file stands ∙ c.in_default.is)
     c.if-self-ge-FRAMES_LIMIT.true
@@ -73,6 +67,6 @@ returns-clause-none c = λ body file stands.
     let s = c.args.self.now in
     let h = here_in s file in
     let end = linked-end s c.requires.sound c.requires.«open» c.if-not-self.false
-    (c.in-Ok.ensures.linked s.plans c.in_ok-read_links.ensures) c.args.placed c.requires.kind body file stands in
+    (c.in-Ok.ensures.linked s.plans c.requires.rows) c.args.placed c.requires.kind body file stands in
     end-stands h end.0 end.1 (c.place_fault-later.ensures.fault body file stands ∙ c.in_default.is)
     c.if-self-ge-FRAMES_LIMIT.false

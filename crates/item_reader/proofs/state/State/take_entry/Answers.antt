@@ -2,6 +2,7 @@ use Rattle.item_reader.specs.State.{here_in}
 use Rattle.item_reader.proofs.Kept.{sound-entry}
 use Rattle.item_reader.proofs.Taken.{answers-passed, takes-entry, entry-answers}
 use Rattle.item_reader.proofs.Holding.{lent-entry}
+use Rattle.item_reader.proofs.Rows.{rows-entry}
 use Rattle.item_reader.proofs.state.State.take_entry.Goals as goal
 
 pub returns-in_err-changed-clause-answers : goal.returns-in_err-changed-clause-answers
@@ -31,3 +32,8 @@ pub returns-clause-lent : goal.returns-clause-lent
 returns-clause-lent c = λ kept beside.
     lent-entry c.args.self.now c.args.entry c.args.head.at c.in_ok-changed.changed c.hold.new.self kept
     c.in_ok-changed.ensures.holds beside
+
+pub returns-clause-rows : goal.returns-clause-rows
+returns-clause-rows c =
+    rows-entry c.args.self.now c.args.entry c.args.end c.in_ok-changed.changed c.hold.new.self c.requires.sound
+    c.in_ok-changed.ensures.holds

@@ -2,12 +2,13 @@ use Rattle.std.proofs.Common.{◌+◌, ◌≤◌, ◌∙◌, false, sym, subst}
 use Rattle.link_graph.specs.Collected.{Collected, Becomes, with_end}
 use Rattle.file_grammar.specs.Structure.{file_limit}
 use Rattle.item_reader.specs.declared.item.ReadError.TheVariants as errors
-use Rattle.item_reader.specs.State.{here_in}
+use Rattle.item_reader.specs.State.{here_in, HasRows}
 use Rattle.item_reader.specs.declared.item.Item.TheVariants as given
 use Rattle.item_reader.specs.declared.state.State.{State}
 use Rattle.item_reader.specs.declared.structure.Placed.{Placed}
 use Rattle.item_reader.specs.Judged.{weighing_reasons, frame_end_reasons, Takes, IsKept, node_by}
 use Rattle.item_reader.proofs.Kept.{frame_end-below, sound-frame_end}
+use Rattle.item_reader.proofs.Rows.{rows-frame_end}
 use Rattle.item_reader.proofs.Parts.{first_of-front}
 use Rattle.item_reader.proofs.Taken.{answers-passed, frame_end-judged, frame_end-refused, takes-frame_end}
 use Rattle.item_reader.proofs.state.State.take_frame_end.Goals as goal
@@ -52,7 +53,7 @@ returns-clause-answers c = λ file stands.
     let w = c.close_frame.new.self in
     subst (λ (w : State). Takes (here_in s file) (given.FrameEnd p.at p.class) (ended w p c.set_end.new.self))
     (sym c.close_frame.ensures.rest)
-    (takes-frame_end s p c.in_ok-weigh.field-0 c.set_end.new.self w.links w.numbering
+    (takes-frame_end s p c.in_ok-weigh.field-0 c.set_end.new.self w.numbering
     c.in_ok-close_frame.ensures.order.numbers file s.segment.pending c.in_ok-close_frame.ensures.order.is
     c.requires.open stands c.requires.kind (c.in_ok-weigh.ensures.ok file stands)
     (c.in_ok-close_frame.ensures.none s.segment.pending file stands))
@@ -70,6 +71,18 @@ returns-clause-kept c =
     c.close_frame.ensures.rest
     (subst (λ n. Becomes c.set_end.new.self (with_end n w.segment)) c.node.ensures c.set_end.ensures) in
     subst (λ (w : State). IsKept s (ended w p c.set_end.new.self)) (sym c.close_frame.ensures.rest)
-    (sound-frame_end s p c.set_end.new.self w.links w.numbering c.in_ok-close_frame.ensures.order.numbers
+    (sound-frame_end s p c.set_end.new.self w.numbering c.in_ok-close_frame.ensures.order.numbers
     c.in_ok-close_frame.ensures.order.is c.requires.sound c.requires.here low
     c.in_ok-close_frame.ensures.few becomes)
+
+pub close_frame-requires-clause-rows : goal.close_frame-requires-clause-rows
+close_frame-requires-clause-rows c = c.requires.rows.open_is c.requires.frame
+
+pub returns-clause-rows : goal.returns-clause-rows
+returns-clause-rows c =
+    let s = c.args.self.now in
+    let p = c.args.placed in
+    let w = c.close_frame.new.self in
+    subst (λ (w : State). HasRows (ended w p c.set_end.new.self) c.clear.new.self) (sym c.close_frame.ensures.rest)
+    (rows-frame_end s p c.set_end.new.self w.numbering c.in_ok-close_frame.ensures.order.numbers c.clear.new.self
+    c.in_ok-close_frame.ensures.order.is c.clear.ensures)

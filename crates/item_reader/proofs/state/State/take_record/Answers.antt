@@ -9,26 +9,25 @@ use Rattle.file_grammar.specs.declared.kind.Kind.TheVariants.{Other}
 use Rattle.file_grammar.specs.Structure.{file_limit}
 use Rattle.file_grammar.specs.Kind.{kind_of, is_target_kind, is_header_kind}
 use Rattle.link_graph.specs.Collected.{Becomes, with_node, is_held}
-use Rattle.item_reader.specs.declared.item.ReadError.TheVariants as errors
 use Rattle.item_reader.specs.State.{here_in}
-use Rattle.item_reader.specs.Judged.{weighing_reasons, record_reasons, node_by}
+use Rattle.item_reader.specs.Judged.{node_by}
 use Rattle.item_reader.proofs.Kept.{record-below, sound-record}
-use Rattle.item_reader.proofs.Parts.{first_of-front}
 use Rattle.item_reader.proofs.Taken.{answers-fault, answers-passed, record-judged, record-held}
 use Rattle.item_reader.proofs.Taken.{record-new_here}
-use Rattle.item_reader.proofs.Taken.{takes-record, added-new, refused-held}
+use Rattle.item_reader.proofs.Taken.{takes-record, added-new, refused-held, record-refused}
+use Rattle.item_reader.proofs.Rows.{rows-record}
 use Rattle.item_reader.proofs.state.State.take_record.Goals as goal
 
 pub returns-in_err-weight-clause-answers : goal.returns-in_err-weight-clause-answers
 returns-in_err-weight-clause-answers c = λ file stands.
     let s = c.args.self.now in
+    let error = c.in_err-weight.field-0.0 in
     let target : is_target_kind (kind_of s.dictionary c.args.placed.class) ≡ true =
     ap is_target_kind (sym c.requires.kind) ∙ c.requires.target in
-    answers-passed (here_in s file) s c.from_residual.result (errors.Fault c.in_err-weight.field-0.0)
-    c.from_residual.ensures.1
-    (record-judged s c.args.placed file s.segment.pending c.requires.open stands target
-    ∙ first_of-front weighing_reasons record_reasons (here_in s file) c.in_err-weight.field-0.0
-    (c.in_err-weight.ensures.fault file stands))
+    answers-passed (here_in s file) s c.from_residual.result error c.from_residual.ensures.1
+    (record-refused s c.args.placed c.weigh_links.result error s file s.segment.pending c.requires.open
+    stands target c.in_err-weight.was (λ fault failed. c.weigh_links.ensures.fault fault failed file stands)
+    c.weigh_links.ensures.no_device)
 
 pub returns-in-Err-InstanceTwice-clause-answers : goal.returns-in-Err-InstanceTwice-clause-answers
 returns-in-Err-InstanceTwice-clause-answers c = λ file stands.
@@ -112,4 +111,11 @@ returns-clause-kept c =
     sound-record s p c.in_ok-weight.weight c.if-self.self c.add.new.self c.requires.sound c.requires.frame
     c.requires.here c.requires.size c.in_ok-weight.ensures.reads c.in_ok-weight.ensures.within.0
     c.in_ok-weight.ensures.within.1 low header
+    (subst (λ n. Becomes c.add.new.self (with_node n s.segment)) c.node.ensures c.in-Ok.ensures.ok)
+
+pub returns-clause-rows : goal.returns-clause-rows
+returns-clause-rows c =
+    let s = c.args.self.now in
+    rows-record s c.args.placed c.in_ok-weight.weight c.if-self.self c.add.new.self c.args.links.now
+    c.weigh_links.new.links c.requires.rows c.requires.frame c.in_ok-weight.ensures.row
     (subst (λ n. Becomes c.add.new.self (with_node n s.segment)) c.node.ensures c.in-Ok.ensures.ok)
