@@ -170,7 +170,11 @@ impl State {
 
     /// Takes the end record of a frame, whose body is pending.
     /// The links of its records are given up.
-    pub fn take_frame_end(&mut self, links: &mut FrameLinks, placed: Placed) -> Result<Item, ReadError>
+    pub fn take_frame_end(
+        &mut self,
+        links: &mut FrameLinks,
+        placed: Placed,
+    ) -> Result<Item, ReadError>
         requires sound { IsSound self.old }
         requires rows { HasRows self.old links.old }
         requires open { self.old.closed ≡ false }

@@ -58,7 +58,8 @@ returns-clause-reads g c =
     λ p. record {
       source = p;
       state = c.in_ok-new.field-0;
-      own = c.new-3.result;
+      links = c.new-3.result;
+      own = c.new-4.result;
       looked = Nothing;
       kept = None;
       instance = 0;
