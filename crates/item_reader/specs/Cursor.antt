@@ -34,9 +34,9 @@ body_in (Some (given.FrameEnd at class)) own segment = option_map_or (λ (r : Bo
 body_in (Some (given.Table at class length)) own segment = own
 body_in (Some (given.FileEnd at class length seek)) own segment = own
 
--- What a reader keeps while there was no error: it fits together, the links of the open frame's records stand beside it,
--- no body is pending, the source stands where the look beyond the place ends, and an entry is lent where the last item is
--- one.
+-- What a reader keeps while there was no error: it fits together, the links of the open frame's records stand beside
+-- it, no body is pending, the source stands where the look beyond the place ends, and an entry is lent where the last
+-- item is one.
 pub record Keeps (c : Cursor) (last : Option Given) : Type 0 where
   pub sound : IsSound c.state
   pub rows : HasRows c.state c.links
