@@ -1,16 +1,19 @@
 -- What callers know of a reader of frames, what it has given, and what it lends.
-use Rattle.std.specs.Prelude.{◌≡◌, ℕ, ⊤, true, false, List, [], ◌∷◌, ◌++◌, All, Option, Some, IsSomeAnd}
+use Rattle.std.specs.Prelude.{◌≡◌, ℕ, ⊤, true, false, List, [], ◌∷◌, ◌++◌, All, Option, Some, None, IsSomeAnd}
 use Rattle.std.specs.Prelude.{Bool, Result, Ok, Err}
 use Rattle.std.specs.List.{AllZip}
+use Rattle.std.specs.Option.{option_to_list}
 use Rattle.scalar_types.specs.declared.Order.{Order}
 use Rattle.dictionary.specs.declared.entries.Entry.{Entry}
 use Rattle.dictionary.specs.Dictionary.{entry_of, IsDictionary}
 use Rattle.layout_plan.specs.Plans.{plan_of}
-use Rattle.link_graph.specs.Graph.{Layouts, ReadsBy}
+use Rattle.link_graph.specs.declared.nodes.Root.TheVariants.{Head}
+use Rattle.link_graph.specs.Graph.{Layouts, ReadsBy, first_loose, roots_from}
 use Rattle.file_grammar.specs.Record.{layout_in}
 use Rattle.file_grammar.specs.Item.{Item, Before}
 use Rattle.file_grammar.specs.MayStand.{Begins, IsWellFormed}
-use Rattle.frame_content.specs.Frames.{Frame}
+use Rattle.frame_content.specs.Frames.{Frame, frame_of}
+use Rattle.contents_table.specs.Channels.{header_of}
 use Rattle.contents_table.specs.declared.layouts.ChannelLayouts.{ChannelLayouts}
 use Rattle.contents_table.specs.Layouts.{layouts_of}
 use Rattle.item_reader.specs.declared.item.Item.{Item as Given}
@@ -41,7 +44,8 @@ pub record Lends (frame : Frame) (plans : Layouts) (numbers : List ℕ) (r : Rea
   pub in_order : IsInOrder frame (frame_in_order r.before.dictionary r.segment numbers)
   pub can : CanBeWritten r.before.dictionary plans r.segment numbers
 
--- After these frames the last item has ended this one, which the reader lends.
+-- After these frames the last item has ended this one, which the reader lends: the frame of its segment, in the byte
+-- order of the file. FrameH is the only head among its records, and none of its links is loose.
 pub record GivesFrame (file : List ℕ) (frames : List Frame) (frame : Frame) (r : Frames) : Type 0 where
   pub earlier : List Item
   pub taken : Item
@@ -54,6 +58,11 @@ pub record GivesFrame (file : List ℕ) (frames : List Frame) (frame : Frame) (r
   pub numbering_is : r.reader.numbering ≡ Some numbers
   pub lends : (plans : Layouts) → ((class : ℕ) → plan_of plans class ≡ layout_in r.reader.before.dictionary class)
       → All (ReadsBy plans r.reader.segment.order) r.reader.segment.nodes → Lends frame plans numbers r.reader
+  pub order_is : r.reader.segment.order ≡ r.reader.order
+  pub is : frame ≡ frame_of r.reader.before.dictionary r.reader.segment
+  pub heads : roots_from Head 0 r.reader.segment.nodes ≡ option_to_list (header_of frame)
+  pub linked : (plans : Layouts) → ((class : ℕ) → plan_of plans class ≡ layout_in r.reader.before.dictionary class)
+      → first_loose plans r.reader.segment ≡ None
 
 -- The reader has given all frames of the file, which is well-formed.
 pub record GivesAll (file : List ℕ) (frames : List Frame) (r : Frames) : Type 0 where

@@ -86,6 +86,7 @@ impl FrameReader {
         requires reads { Reads (S.outside shelf.old) self.old.reader }
         requires error { self.old.reader.error ≡ None }
         ensures reads { Reads (S.outside shelf.new) self.new.reader }
+        ensures order { self.new.reader.order ≡ self.old.reader.order }
         ensures goes { (file : List ℕ) (frames : List Frame)
             → file_of (S.outside shelf.old) self.old.reader.position.slot ≡ Some file → AreBytes file
             → self.old.reader.before.closed ≡ false → HasGiven file frames self.old
