@@ -155,6 +155,10 @@ frame-given file r new at class frames bytes goes same told =
         numbers = numbers;
         numbering_is = goes.frame.numbering_is;
         lends = b.lends;
+        order_is = b.order_is;
+        is = b.is;
+        heads = b.heads;
+        linked = b.linked;
       },
     )
 

@@ -7,6 +7,7 @@ use Rattle.std.proofs.lemmas.List.{append-nil, map-append}
 use Rattle.std.proofs.lemmas.List.Elements.{All-from_recursion, recursion_from_All, All-weaker}
 use Rattle.std.proofs.lemmas.Option.{none-some, same_Some, option_and_then_some}
 use Rattle.std.specs.Prelude.{◌==◌}
+use Rattle.std.specs.Option.{option_to_list}
 use Rattle.scalar_types.specs.declared.Order.{Order}
 use Rattle.type_text.proofs.FoundLemmas.{find-some}
 use Rattle.dictionary.specs.declared.entries.Entry.{Entry}
@@ -15,8 +16,9 @@ use Rattle.layout_plan.specs.Layout.{layout_of}
 use Rattle.layout_plan.specs.Plans.{plan_of}
 use Rattle.layout_plan.proofs.LayoutLemmas.{layout_of-sound}
 use Rattle.rooted_graph.specs.BreadthOrder.{IsBreadthOrder}
+use Rattle.link_graph.specs.declared.nodes.Root.TheVariants.{Head}
 use Rattle.link_graph.specs.Collected.{Collected}
-use Rattle.link_graph.specs.Graph.{Layouts, ReadsBy, graph_of}
+use Rattle.link_graph.specs.Graph.{Layouts, ReadsBy, first_loose, graph_of, roots_from}
 use Rattle.file_grammar.specs.declared.kind.Kind.{Kind}
 use Rattle.file_grammar.specs.declared.kind.Kind.TheVariants.{FrSH, FrSE, FrameH, FrEndOfFrame, FrTOC, FrEndOfFile}
 use Rattle.file_grammar.specs.declared.kind.Kind.TheVariants.{Other}
@@ -24,7 +26,7 @@ use Rattle.file_grammar.specs.Structure.{Structure}
 use Rattle.file_grammar.specs.Kind.{kind_of}
 use Rattle.file_grammar.specs.Item.{Item, EntryItem, OtherItem, Before, after, after_kind, dictionary_after}
 use Rattle.file_grammar.specs.MayStand.{MayStand, KindMayStand, Begins}
-use Rattle.file_grammar.specs.Record.{Reading, layout_in, reading_by, reading_of, weight_of}
+use Rattle.file_grammar.specs.Record.{Reading, layout_in, reading_by, reading_of, weight_of, AreLinked}
 use Rattle.file_grammar.specs.Fault.{Here, structure, entries_before, kind}
 use Rattle.file_grammar.proofs.Bodies.{reading-found}
 use Rattle.frame_content.specs.Frames.{Frame, frame_by, frame_of}
@@ -32,6 +34,7 @@ use Rattle.file_content.specs.Stored.{StoredFrame, structures_brought, frame_end
 use Rattle.file_content.specs.Contents.{content_frame}
 use Rattle.file_content.proofs.Brought.{frames-push}
 use Rattle.file_content.proofs.GivenKinds.{structure-here, ends-frame}
+use Rattle.contents_table.specs.Channels.{header_of}
 use Rattle.canonical_file.specs.Ranges.{AreBytes}
 use Rattle.canonical_file.specs.Ordered.{IsInOrder, ordered}
 use Rattle.canonical_file.specs.Renumbered.{HasOneHeader}
@@ -50,6 +53,7 @@ use Rattle.item_reader.specs.Reader.{Reader, Goes, here_of}
 use Rattle.item_reader.proofs.ReadOn.{begins-more}
 use Rattle.frame_reader.specs.Gives.{frames_among}
 use Rattle.frame_reader.specs.Given.{Lends}
+use Rattle.frame_reader.proofs.EndedFrames.{one-head, none-loose}
 
 -- ---- parts of a frame that can be written
 
@@ -99,6 +103,11 @@ pub record BringsFrame (file : List ℕ) (before new : Reader) (items : List Ite
   pub frames_are : frames_among new.order (items ++ taken ∷ []) ≡ frames_among new.order items ++ frame ∷ []
   pub lends : (plans : Layouts) → ((class : ℕ) → plan_of plans class ≡ layout_in new.before.dictionary class)
       → All (ReadsBy plans new.segment.order) new.segment.nodes → Lends frame plans numbers new
+  pub order_is : new.segment.order ≡ new.order
+  pub is : frame ≡ frame_of new.before.dictionary new.segment
+  pub heads : roots_from Head 0 new.segment.nodes ≡ option_to_list (header_of frame)
+  pub linked : (plans : Layouts) → ((class : ℕ) → plan_of plans class ≡ layout_in new.before.dictionary class)
+      → first_loose plans new.segment ≡ None
   pub same : new.before.dictionary ≡ before.before.dictionary
 
 -- the frame that a structure ends
@@ -167,10 +176,16 @@ frame-ends file before new at class items numbers bytes begins goes same numberi
         let frame_is : frame ≡ frame_of new.before.dictionary new.segment =
         same-frame before.order new.segment (stored_frame b s) goes.frame.order_is goes.frame.nodes end
         ∙ ap (λ es. frame_of es new.segment) (sym kept) in
-        let record_may = (subst (λ k. KindMayStand k before.order b s) is may.1.kind).0 in
+        let standing = subst (λ k. KindMayStand k before.order b s) is may.1.kind in
+        let record_may = standing.0 in
         let dictionary : List Entry = printed_entries new.before.dictionary in
         let all : All (IsWritableInOrder dictionary) (frames_among new.order more) =
         source_frames file new.order more new.before bytes begun in
+        let one : HasOneHeader frame =
+        (all-last (IsWritableInOrder dictionary) (frames_among new.order items) frame
+        (subst (All (IsWritableInOrder dictionary)) frames_are all)).header in
+        let nodes : new.segment.nodes ≡ map (bodied_of new.before.dictionary) b.frame =
+        goes.frame.nodes ∙ ap (λ es. map (bodied_of es) b.frame) (sym kept) in
         record {
           taken = OtherItem s;
           begins = begun;
@@ -192,11 +207,15 @@ frame-ends file before new at class items numbers bytes begins goes same numberi
                   (λ class. are class ∙ ap (λ es. layout_in es class) kept) record_may.reads));
               breadth = breadth plans are kept;
               texts = short-held new.before.dictionary (source_entries file new.order more new.before bytes begun).own;
-              header = subst HasOneHeader frame_is
-                  (all-last (IsWritableInOrder dictionary) (frames_among new.order items) frame
-                  (subst (All (IsWritableInOrder dictionary)) frames_are all)).header;
+              header = subst HasOneHeader frame_is one;
             };
           };
+          order_is = goes.frame.order_is ∙ same;
+          is = frame_is;
+          heads = one-head new.before.dictionary new.segment b.frame frame nodes frame_is one;
+          linked = none-loose new.before.dictionary new.segment b.frame nodes
+              (subst (λ o. AreLinked o new.before.dictionary b.frame b.frame) (sym goes.frame.order_is)
+              (subst (λ es. AreLinked before.order es b.frame b.frame) (sym kept) standing.2));
           same = kept;
         }
 

@@ -1,4 +1,5 @@
 pub mod FirstItems
+pub mod EndedFrames
 pub mod ItemsCome
 pub mod NamedEntries
 pub mod Ended

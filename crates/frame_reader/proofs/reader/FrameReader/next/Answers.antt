@@ -21,6 +21,7 @@ items-init g c = record {
   again = λ closed. refl;
   unclosed = λ unclosed. unclosed;
   passes = goes-none (g.S.Shelf.outside c.args.shelf.now) c.args.self.now.reader.position;
+  order = refl;
   place = omega arith;
   given = given_on-init (g.S.Shelf.outside c.args.shelf.now) c.args.self.now;
 }
@@ -163,6 +164,8 @@ items-preserved g c =
           ∙ still-open c.in_ok-item.item c.next.new.self c.in_default-item.not-FileEnd c.in_ok-item.ensures.closed.1;
       passes = subst (λ (x : Reader). Passes (o c.args.shelf.now) (o c.next.new.shelf)
           c.args.self.now.reader.position x.position) moved k.passes;
+      order = ap (λ (x : Reader). x.order) c.follow.ensures.reader ∙ c.next.ensures.order
+          ∙ ap (λ (x : Frames). x.reader.order) c.self.view_is ∙ c.items.invariant.order;
       place = subst (λ (x : Reader). c.args.self.now.reader.before.place ≤ x.before.place) moved
           (place-on c.args.self.now r c.next.new.self
           (subst (λ (x : Frames). c.args.self.now.reader.before.place ≤ x.reader.before.place) (sym c.self.view_is)

@@ -14,6 +14,7 @@ invariant-items g l = record {
   unclosed : l.initial.self.reader.before.closed ≡ false → l.self.reader.before.closed ≡ false;
   passes : Passes (g.S.Shelf.outside l.initial.shelf) (g.S.Shelf.outside l.shelf) l.initial.self.reader.position
       l.self.reader.position;
+  order : l.self.reader.order ≡ l.initial.self.reader.order;
   place : l.initial.self.reader.before.place ≤ l.self.reader.before.place;
   given : GivenOn (g.S.Shelf.outside l.initial.shelf) l.initial.self l.self;
 }
