@@ -1,12 +1,11 @@
 -- The records of a frame that has ended, as a segment has them: FrameH is the one head, and no link is loose.
-use Rattle.std.proofs.Common.{◌≡◌, ℕ, zero, suc, ◌+◌, ◌<◌, Bool, true, false, cond, List, [], ◌∷◌, ◌++◌, map}
+use Rattle.std.proofs.Common.{◌≡◌, ℕ, suc, ◌+◌, ◌<◌, Bool, true, false, cond, List, [], ◌∷◌, ◌++◌, map}
 use Rattle.std.proofs.Common.{length, get_or, All, Option, Some, None, codes, refl, sym, ap, ◌∙◌, subst, arith}
-use Rattle.std.proofs.Common.{inl, inr, ◌⊎◌}
-use Rattle.std.specs.Prelude.{position}
+use Rattle.std.proofs.Common.{inl, inr}
 use Rattle.std.specs.List.{position_from}
 use Rattle.std.specs.Option.{option_map_or, option_to_list}
 use Rattle.std.specs.Str.{bytes_eq}
-use Rattle.std.proofs.lemmas.Bool.{cases_Bool, cond-false}
+use Rattle.std.proofs.lemmas.Bool.{cases_Bool}
 use Rattle.std.proofs.lemmas.Bool.Decides.{same_from_decides, Decides-like}
 use Rattle.std.proofs.lemmas.Iterator.Adapters.{position_from-zero}
 use Rattle.std.proofs.lemmas.List.{get_or-map}
@@ -51,6 +50,7 @@ head-named name =
     by false true = refl
     by false false = refl
 
+-- so its record is one just where its row is a FrameH
 head-row : (order : Order) (held : List Entry) (nodes : List Bodied) (s : Structure)
     → is_head (bodied_of held s) ≡ is_frame_header (row_of order held nodes (bodied_of held s))
 head-row order held nodes s = by (entry_of held s.class)
@@ -60,20 +60,21 @@ head-row order held nodes s = by (entry_of held s.class)
     by None = refl
     by (Some e) = head-named e.name
 
--- Of these one at most passes.
-abbrev PassesOnce : (Bodied → Bool) → List Bodied → Type 0
-PassesOnce p rs =
-    (j k : ℕ) → j < length rs → k < length rs → p (get_or rs j no_record) ≡ true → p (get_or rs k no_record) ≡ true
-    → j ≡ k
+-- one of these records at most is a head
+abbrev HasOneHead : List Bodied → Type 0
+HasOneHead rs =
+    (j k : ℕ) → j < length rs → k < length rs → is_head (get_or rs j no_record) ≡ true
+    → is_head (get_or rs k no_record) ≡ true → j ≡ k
 
+-- where none is, there are no heads
 no-heads : (k : ℕ) (rs : List Bodied) → All (λ r. is_head r ≡ false) rs → roots_from Head k rs ≡ []
 no-heads k [] none = refl
 no-heads k (r ∷ rs) none =
     ap (λ b. cond b (k ∷ []) [] ++ roots_from Head (k + 1) rs) (All-head (λ r. is_head r ≡ false) r rs none)
     ∙ no-heads (k + 1) rs (All-tail (λ r. is_head r ≡ false) r rs none)
 
--- so the heads are the first one
-once-first : (k : ℕ) (rs : List Bodied) → PassesOnce is_head rs
+-- where one at most is, the heads are the first one
+once-first : (k : ℕ) (rs : List Bodied) → HasOneHead rs
     → roots_from Head k rs ≡ option_to_list (position_from is_head k rs)
 once-first k [] once = refl
 once-first k (r ∷ rs) once = by (is_head r) refl (once-first (k + 1) rs later)
@@ -85,7 +86,7 @@ once-first k (r ∷ rs) once = by (is_head r) refl (once-first (k + 1) rs later)
           | inr apart ↦ apart
         ])
 
-    later : PassesOnce is_head rs
+    later : HasOneHead rs
     later j n first second head other =
         let same = once (suc j) (suc n) (omega (arith, first)) (omega (arith, second)) head other in
         omega (arith, same)
@@ -97,7 +98,7 @@ once-first k (r ∷ rs) once = by (is_head r) refl (once-first (k + 1) rs later)
     by true is rest = ap (λ ns. k ∷ ns) (no-heads (k + 1) rs (others is))
     by false is rest = rest
 
--- FrameH is the only head of a frame that has one.
+-- FrameH is the only head of a frame that has one at most.
 pub one-head : (held : List Entry) (s : Collected) (records : List Structure) (frame : Frame)
     → s.nodes ≡ map (bodied_of held) records → frame ≡ frame_of held s → HasOneHeader frame
     → roots_from Head 0 s.nodes ≡ option_to_list (header_of frame)
@@ -127,11 +128,12 @@ one-head held s records frame nodes is one =
         ∙ ap is_frame_header (get_or-map row s.nodes k no_record no_row less)
         ∙ sym (alike k no_record less) ∙ head)
 
-    once : PassesOnce is_head s.nodes
+    once : HasOneHead s.nodes
     once j k first second head other = same_Some j k (sym (found j first head) ∙ found k second other)
 
 -- ---- links
 
+-- the records of a segment are the structures from which they were made
 structures-back : (held : List Entry) (records : List Structure)
     → map structure_of (map (bodied_of held) records) ≡ records
 structures-back held [] = refl

@@ -44,8 +44,7 @@ pub record Lends (frame : Frame) (plans : Layouts) (numbers : List ℕ) (r : Rea
   pub in_order : IsInOrder frame (frame_in_order r.before.dictionary r.segment numbers)
   pub can : CanBeWritten r.before.dictionary plans r.segment numbers
 
--- After these frames the last item has ended this one, which the reader lends: the frame of its segment, in the byte
--- order of the file. FrameH is the only head among its records, and none of its links is loose.
+-- After these frames the last item has ended this one, which the reader lends.
 pub record GivesFrame (file : List ℕ) (frames : List Frame) (frame : Frame) (r : Frames) : Type 0 where
   pub earlier : List Item
   pub taken : Item
@@ -58,9 +57,13 @@ pub record GivesFrame (file : List ℕ) (frames : List Frame) (frame : Frame) (r
   pub numbering_is : r.reader.numbering ≡ Some numbers
   pub lends : (plans : Layouts) → ((class : ℕ) → plan_of plans class ≡ layout_in r.reader.before.dictionary class)
       → All (ReadsBy plans r.reader.segment.order) r.reader.segment.nodes → Lends frame plans numbers r.reader
+  -- the segment is in the byte order of the file
   pub order_is : r.reader.segment.order ≡ r.reader.order
+  -- the frame is the segment's, by the dictionary
   pub is : frame ≡ frame_of r.reader.before.dictionary r.reader.segment
+  -- FrameH is the only head
   pub heads : roots_from Head 0 r.reader.segment.nodes ≡ option_to_list (header_of frame)
+  -- no link is loose
   pub linked : (plans : Layouts) → ((class : ℕ) → plan_of plans class ≡ layout_in r.reader.before.dictionary class)
       → first_loose plans r.reader.segment ≡ None
 

@@ -76,7 +76,8 @@ impl FrameReader {
     }
 
     /// Reads to the end of the next frame: `true` where there is one, `false` at the end of the file, and then
-    /// again. What is drawn of the slot reaches no further than the look of the place reached.
+    /// again. What is drawn of the slot reaches no further than the look of the place reached. The byte order stays
+    /// the same, after an error too.
     ///
     /// # Errors
     ///
