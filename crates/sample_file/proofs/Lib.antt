@@ -14,6 +14,7 @@ pub mod Fronts
 pub mod AllFrames
 pub mod SampleEnds
 pub mod Learnt
+pub mod VectorValues
 pub mod DraftLemmas
 pub mod SoundDrafts
 pub mod LentFrames

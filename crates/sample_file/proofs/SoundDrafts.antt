@@ -1,23 +1,21 @@
 -- The drafts of a frame are sound, and they make the frame.
 use Rattle.std.proofs.Common.{◌≡◌, ℕ, zero, suc, ◌<◌, ◌≤◌, true, [], ◌∷◌, Some, None, refl}
 use Rattle.std.proofs.Common.{lit≤, lit<, arith, subst}
-use Rattle.std.specs.Prelude.{codes, Contains}
+use Rattle.std.specs.Prelude.{Contains}
 use Rattle.std.specs.List.{AllByRecursion}
-use Rattle.std.proofs.lemmas.List.Elements.{All-from_recursion}
 use Rattle.std.proofs.lemmas.Bool.{false≢true}
 use Rattle.std.proofs.lemmas.Option.{same_Some}
-use Rattle.scalar_types.specs.declared.Width.TheVariants.{Eight}
-use Rattle.record_writer.specs.Fit.{FitsWidth, IsShortText}
 use Rattle.rooted_graph.proofs.Places.{Contains_from_has}
 use Rattle.frame_content.specs.Frames.{row_at}
 use Rattle.contents_table.specs.Channels.{is_frame_header, header_of}
 use Rattle.canonical_file.specs.Ordered.{ordered}
 use Rattle.canonical_file.specs.Renumbered.{HasOneHeader}
-use Rattle.sample_file.specs.Sample.{sample_frame, one_sixty_fourth}
+use Rattle.sample_file.specs.Sample.{sample_frame}
 use Rattle.sample_file.specs.Drafts.{IsSound, header_draft, raw_draft, channel_draft, vector_draft, end_draft}
 use Rattle.sample_file.specs.Drafts.{drafts_before}
 use Rattle.sample_file.proofs.Computing.{computing}
 use Rattle.sample_file.proofs.InOrder.{sample_order, sample_graph}
+use Rattle.sample_file.proofs.VectorValues.{vector-fits}
 use Rattle.sample_file.proofs.Learnt.{header-layout, raw-layout, channel-layout, vector-layout, end-layout}
 use Rattle.sample_file.proofs.DraftLemmas.{drafted_frame, drafted_graph, drafted_loose}
 
@@ -44,40 +42,7 @@ channel-sound j below = record {
 pub vector-sound : (k j : ℕ) → IsSound (vector_draft k j)
 vector-sound k j = record {
   layout = vector-layout;
-  fits = (
-    lit≤ tt,
-    (
-      lit< tt,
-      (
-        lit< tt,
-        (
-          lit< tt,
-          (
-            lit< tt,
-            (
-              refl,
-              (
-                lit< tt,
-                (
-                  (refl, All-from_recursion (FitsWidth Eight) (64 ∷ []) (lit< tt, tt)),
-                  (
-                    (refl, All-from_recursion (FitsWidth Eight) (one_sixty_fourth ∷ []) (lit< tt, tt)),
-                    (
-                      (refl, All-from_recursion (FitsWidth Eight) (0 ∷ []) (lit< tt, tt)),
-                      (
-                        (refl, All-from_recursion IsShortText (codes "s" ∷ []) (lit≤ tt, tt)),
-                        (lit≤ tt, (tt, (lit< tt, tt))),
-                      ),
-                    ),
-                  ),
-                ),
-              ),
-            ),
-          ),
-        ),
-      ),
-    ),
-  );
+  fits = vector-fits k j;
   short = lit≤ tt;
 }
 

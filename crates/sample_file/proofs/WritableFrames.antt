@@ -4,18 +4,15 @@ use Rattle.std.proofs.Common.{refl, sym, arith, lit≤, lit<, subst}
 use Rattle.std.specs.List.{AllByRecursion}
 use Rattle.std.proofs.lemmas.List.Elements.{All-from_recursion, All-map, All-weaker}
 use Rattle.std.proofs.lemmas.List.{map-append}
-use Rattle.scalar_types.specs.declared.Width.TheVariants.{Eight}
-use Rattle.record_writer.specs.Fit.{FitsWidth, IsShortText}
 use Rattle.link_graph.specs.Table.{IsWithin}
-use Rattle.canonical_file.specs.Ranges.{AreBytes, IsByte}
+use Rattle.canonical_file.specs.Ranges.{AreBytes, IsByte, IsInRange}
 use Rattle.canonical_file.specs.Records.{entry_fields, end_record}
 use Rattle.sample_file.specs.Entries.{frame_header, raw_data, channel, vector, frame_end}
-use Rattle.sample_file.specs.Sample.{sample_closing, sample_frame, numbers_below, sample}
-use Rattle.sample_file.specs.Sample.{one_sixty_fourth}
-use Rattle.std.specs.Prelude.{codes}
+use Rattle.sample_file.specs.Sample.{sample_closing, sample_frame, numbers_below, sample, vector_values}
 use Rattle.sample_file.specs.Whole.{sample_frames}
 use Rattle.canonical_laws.specs.Writable.{IsWritableFrame, IsWritableClosing, IsWritable}
 use Rattle.canonical_laws.specs.Writable.{IsWritableRow, record_at}
+use Rattle.sample_file.proofs.VectorValues.{vector-fits}
 use Rattle.sample_file.proofs.WritableEntries.{all_entries}
 use Rattle.sample_file.proofs.WritableEntries.{frame_header-writable, raw_data-writable, channel-writable}
 use Rattle.sample_file.proofs.WritableEntries.{vector-writable, frame_end-writable, contents_table-writable}
@@ -37,6 +34,22 @@ samples n j (i ∷ is) = All-map IsByte (sample n j) (i ∷ is)
     alike : (xs : List ℕ) → AllByRecursion (λ x. x ≡ x) xs
     alike [] = tt
     alike (x ∷ xs) = (refl, alike xs)
+
+-- so the values of a vector are in range
+vector-range : (n j : ℕ) → AllByRecursion IsInRange (vector_values n j)
+vector-range n j = (
+  tt,
+  (
+    tt,
+    (
+      tt,
+      (
+        tt,
+        (tt, (samples n j (numbers_below 64), (tt, (tt, (tt, (tt, (tt, (tt, ((lit< tt, lit< tt), (tt, tt)))))))))),
+      ),
+    ),
+  ),
+)
 
 record-0 : (n : ℕ) → n ≤ 100000 → IsWritable (record_at (sample_frame n) 0)
 unfolding computing
@@ -98,50 +111,8 @@ record-3 n small = record {
   entry = vector-writable;
   layout = entry_fields vector;
   is = refl;
-  fits = (
-    lit≤ tt,
-    (
-      lit< tt,
-      (
-        lit< tt,
-        (
-          lit< tt,
-          (
-            lit< tt,
-            (
-              refl,
-              (
-                lit< tt,
-                (
-                  (refl, All-from_recursion (FitsWidth Eight) (64 ∷ []) (lit< tt, tt)),
-                  (
-                    (refl, All-from_recursion (FitsWidth Eight) (one_sixty_fourth ∷ []) (lit< tt, tt)),
-                    (
-                      (refl, All-from_recursion (FitsWidth Eight) (0 ∷ []) (lit< tt, tt)),
-                      ((refl, All-from_recursion IsShortText (codes "s" ∷ []) (lit≤ tt, tt)), (lit≤ tt, (tt, (lit< tt, tt)))),
-                    ),
-                  ),
-                ),
-              ),
-            ),
-          ),
-        ),
-      ),
-    ),
-  );
-  range = (
-    tt,
-    (
-      tt,
-      (
-        tt,
-        (
-          tt,
-          (tt, (samples n 0 (numbers_below 64), (tt, (tt, (tt, (tt, (tt, (tt, ((lit< tt, lit< tt), (tt, tt)))))))))),
-        ),
-      ),
-    ),
-  );
+  fits = vector-fits n 0;
+  range = vector-range n 0;
   instance = lit< tt;
   short = lit≤ tt;
 }
@@ -164,50 +135,8 @@ record-5 n small = record {
   entry = vector-writable;
   layout = entry_fields vector;
   is = refl;
-  fits = (
-    lit≤ tt,
-    (
-      lit< tt,
-      (
-        lit< tt,
-        (
-          lit< tt,
-          (
-            lit< tt,
-            (
-              refl,
-              (
-                lit< tt,
-                (
-                  (refl, All-from_recursion (FitsWidth Eight) (64 ∷ []) (lit< tt, tt)),
-                  (
-                    (refl, All-from_recursion (FitsWidth Eight) (one_sixty_fourth ∷ []) (lit< tt, tt)),
-                    (
-                      (refl, All-from_recursion (FitsWidth Eight) (0 ∷ []) (lit< tt, tt)),
-                      ((refl, All-from_recursion IsShortText (codes "s" ∷ []) (lit≤ tt, tt)), (lit≤ tt, (tt, (lit< tt, tt)))),
-                    ),
-                  ),
-                ),
-              ),
-            ),
-          ),
-        ),
-      ),
-    ),
-  );
-  range = (
-    tt,
-    (
-      tt,
-      (
-        tt,
-        (
-          tt,
-          (tt, (samples n 1 (numbers_below 64), (tt, (tt, (tt, (tt, (tt, (tt, ((lit< tt, lit< tt), (tt, tt)))))))))),
-        ),
-      ),
-    ),
-  );
+  fits = vector-fits n 1;
+  range = vector-range n 1;
   instance = lit< tt;
   short = lit≤ tt;
 }
@@ -230,50 +159,8 @@ record-7 n small = record {
   entry = vector-writable;
   layout = entry_fields vector;
   is = refl;
-  fits = (
-    lit≤ tt,
-    (
-      lit< tt,
-      (
-        lit< tt,
-        (
-          lit< tt,
-          (
-            lit< tt,
-            (
-              refl,
-              (
-                lit< tt,
-                (
-                  (refl, All-from_recursion (FitsWidth Eight) (64 ∷ []) (lit< tt, tt)),
-                  (
-                    (refl, All-from_recursion (FitsWidth Eight) (one_sixty_fourth ∷ []) (lit< tt, tt)),
-                    (
-                      (refl, All-from_recursion (FitsWidth Eight) (0 ∷ []) (lit< tt, tt)),
-                      ((refl, All-from_recursion IsShortText (codes "s" ∷ []) (lit≤ tt, tt)), (lit≤ tt, (tt, (lit< tt, tt)))),
-                    ),
-                  ),
-                ),
-              ),
-            ),
-          ),
-        ),
-      ),
-    ),
-  );
-  range = (
-    tt,
-    (
-      tt,
-      (
-        tt,
-        (
-          tt,
-          (tt, (samples n 2 (numbers_below 64), (tt, (tt, (tt, (tt, (tt, (tt, ((lit< tt, lit< tt), (tt, tt)))))))))),
-        ),
-      ),
-    ),
-  );
+  fits = vector-fits n 2;
+  range = vector-range n 2;
   instance = lit< tt;
   short = lit≤ tt;
 }
