@@ -139,6 +139,7 @@ impl FrameReader {
         requires ended { IsSome self.old.reader.numbering }
         requires empty { Becomes empty (nothing_in self.old.reader.order) }
         ensures lifted { result ≡ self.old.reader.segment }
+        ensures order { result.order ≡ self.old.reader.order }
         ensures rest { self.new ≡ record self.old {
           reader = record self.old.reader { segment = empty; numbering = None; body = [] };
         } }

@@ -197,6 +197,7 @@ impl ItemReader {
         requires ended { IsSome self.old.numbering }
         requires empty { Becomes empty (nothing_in self.old.order) }
         ensures lifted { result ≡ self.old.segment }
+        ensures order { result.order ≡ self.old.order }
         ensures rest { self.new ≡ record self.old { segment = empty; numbering = None; body = [] } }
     {
         self.cursor.state.numbering.forget();
