@@ -1,7 +1,7 @@
 //! The reader of a file's items.
 
 ghost use Rattle.std.specs.Prelude.{◌≡◌, ◌≢◌, ◌+◌, ◌<◌, ◌≤◌, ℕ, [], false, true, None, Some, Ok, Err, IsSome};
-ghost use Rattle.std.specs.Prelude.{All, IfOk, OnOk, IfErr, OnErr, if◌then◌else◌, ◌↔◌, IsSomeAnd};
+ghost use Rattle.std.specs.Prelude.{All, IfOk, OnOk, IfErr, OnErr, if◌then◌else◌, ◌↔◌, IsSomeAnd, IfSome, slice_get};
 ghost use Rattle.std.specs.Option.{option_copied};
 ghost use Rattle.frame_outside.specs.Counts.{Rose};
 ghost use Rattle.frame_outside.specs.Shelf.{Told, IsSource, reading_at};
@@ -267,9 +267,11 @@ impl ItemReader {
     }
 
     /// The body of the last structure. Empty before the first item, after an entry, after a contents table
-    /// whose layout is not readable, and after the frame was lifted.
+    /// whose layout is not readable, and after the frame was lifted. A record's is that of its node.
     pub fn body(&self) -> &[u8]
-        ensures { result.now ≡ self.now.body }
+        ensures body { result.now ≡ self.now.body }
+        ensures node { (at class instance node : ℕ) → self.now.last ≡ Some (Item.Plain at class instance node)
+            → IfSome (slice_get self.now.segment.nodes node) (λ r. r.body ≡ result.now) }
     {
         match self.last {
             Some(Item::Plain { node, .. }) if node < self.cursor.state.segment.len() => {
