@@ -251,6 +251,7 @@ impl ItemReader {
     /// read. Each body reads by the plan of its class.
     pub fn segment(&self) -> &Segment
         ensures segment { result.now ≡ self.now.segment }
+        ensures order { result.now.order ≡ self.now.order }
         ensures bodies { self.now.error ≡ None → (plans : Layouts)
             → ((class : ℕ) → plan_of plans class ≡ layout_in self.now.before.dictionary class)
             → All (ReadsBy plans result.now.order) result.now.nodes }
