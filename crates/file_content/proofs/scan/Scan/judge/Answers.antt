@@ -30,7 +30,7 @@ returns-in-Some-read c =
     let listed : listed_in r.order r.before.frames r.before.dictionary c.args.class r.body
     ≡ if_frames r.before.frames c.in-Some-read.table =
     ap (λ order. listed_in order r.before.frames r.before.dictionary c.args.class r.body) (sym c.order.ensures)
-    ∙ ap (λ body. listed_in c.order.result r.before.frames r.before.dictionary c.args.class body) (sym c.body.ensures)
+    ∙ ap (λ body. listed_in c.order.result r.before.frames r.before.dictionary c.args.class body) (sym c.body.ensures.body)
     ∙ read-listed c.order.result r.before.frames r.before.dictionary c.args.class c.body.result.now e plan
     c.in-Some-of.layout c.in-Some-read.table read fit search rules lent c.in-Some-read.ensures.table in
     subst (λ t. IfOk c.judge_view.result (λ state. IsJudged t c.args.self.now.channels state)) (sym listed)
