@@ -31,3 +31,10 @@ pub mod RootsOfCuts
 pub mod KeptExtractions
 mod ExampleCuts
 mod ExampleScans
+pub mod Relinking
+pub mod RelinkedRows
+pub mod ChannelTargets
+pub mod CutRows
+pub mod KeptRecords
+pub mod CutSegments
+pub mod NoLoose

@@ -11,3 +11,4 @@ pub mod CutLaws
 pub mod Due
 pub mod Scans
 pub mod Laws
+pub mod Cutting
