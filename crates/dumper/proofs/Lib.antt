@@ -8,6 +8,7 @@ pub mod FrontItems
 pub mod GivenLines
 pub mod ListedItems
 pub mod OneDump
+pub mod LentBodies
 pub mod Pages
 pub mod PlainRuns
 pub mod PrintedItems

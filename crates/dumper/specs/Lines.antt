@@ -81,10 +81,14 @@ abbrev pub elements_of : List Entry → ℕ → List Element
 elements_of held class = option_map_or (λ (e : Entry). e.elements) (entry_of held class) []
 
 -- a structure's first line: where it stands, what it is, and how long
+abbrev pub class_text : List ℕ → ℕ → List ℕ
+class_text name class =
+    codes " " ++ (escaped name ++ (codes " class " ++ (decimal class ++ codes " instance ")))
+
 abbrev pub structure_line : List ℕ → ℕ → ℕ → ℕ → ℕ → List ℕ
 structure_line name at class instance length =
-    codes "record at " ++ (decimal at ++ (codes " " ++ (escaped name ++ (codes " class " ++ (decimal class
-    ++ (codes " instance " ++ (decimal instance ++ (codes " length " ++ (decimal length ++ codes "\n")))))))))
+    codes "record at " ++ (decimal at ++ (class_text name class ++ (decimal instance
+    ++ (codes " length " ++ (decimal length ++ codes "\n")))))
 
 -- a structure of this place, class, instance, length and body
 abbrev pub structure_text : Order → List Entry → ℕ → ℕ → ℕ → ℕ → List ℕ → List ℕ

@@ -39,6 +39,7 @@ impl Beginnings {
     }
 
     /// Appends what stands before a value of a class's field of this name. Fails only where memory is out.
+    #[inline(always)]
     pub fn push(
         &mut self,
         text: &mut Vec<u8>,

@@ -1,6 +1,8 @@
 //! An item as it is printed after a reader has given it.
 
-ghost use Rattle.std.specs.Prelude.{◌≡◌, ◌+◌, ◌++◌, length, None, Some, OnOk, OnErr, IsErrOf};
+ghost use Rattle.std.specs.Prelude.{◌≡◌, ◌+◌, ◌++◌, ℕ, length, None, Some, IfSome, IsTrue, OnOk, OnErr, IsErrOf};
+ghost use Rattle.layout_plan.specs.Body.{HasBody};
+ghost use Rattle.file_grammar.specs.Record.{layout_in};
 ghost use Rattle.frame_outside.specs.Counts.{Rose};
 ghost use Rattle.frame_outside.specs.Sink.{Appends};
 ghost use Rattle.dumper.specs.Lines.{end_line};
@@ -59,11 +61,26 @@ pub fn print_item<O: Sink>(
             at,
             class,
             instance,
-            ..
-        } => { print_last(page, out, reader, told_by_body(reader, at, class, instance)) }
+            node,
+        } => {
+            let is_read = is_record(reader, class, node);
+            print_last(
+                page,
+                out,
+                reader,
+                told_by_body(reader, at, class, instance),
+                is_read,
+            )
+        }
         Item::FrameEnd { at, class } => {
             let instance = reader.instance();
-            print_last(page, out, reader, told_by_body(reader, at, class, instance))
+            print_last(
+                page,
+                out,
+                reader,
+                told_by_body(reader, at, class, instance),
+                false,
+            )
         }
         Item::Table { at, class, length } => {
             let instance = reader.instance();
@@ -77,6 +94,7 @@ pub fn print_item<O: Sink>(
                     instance,
                     length,
                 },
+                false,
             )
         }
         Item::FileEnd {
@@ -112,7 +130,7 @@ fn print_end<O: Sink>(
     ensures { Prints (O.output out.old) (O.output out.new) page.old page.new
         (last_text reader.now told.at told.class told.instance told.length ++ end_line reader.now.before.place) result }
 {
-    print_last(page, out, reader, told)?;
+    print_last(page, out, reader, told, false)?;
     let composed = push_end(&mut page.text, reader.place());
     page.settle(out, composed)
 }
@@ -129,14 +147,30 @@ fn told_by_body(reader: &ItemReader, at: u64, class: u8, instance: u32) -> Told
     }
 }
 
+/// Whether the last item is the record of this node and class: its body reads by the plan of the class.
+fn is_record(reader: &ItemReader, class: u8, node: u32) -> bool
+    requires error { reader.now.error ≡ None }
+    requires last { (at instance : ℕ) × (reader.now.last ≡ Some (Item.Plain at class instance node)) }
+    ensures { IsTrue result → IfSome (layout_in reader.now.before.dictionary class)
+        (λ fields. HasBody reader.now.order fields reader.now.body) }
+{
+    let _plans = reader.plans();
+    let _body = reader.body();
+    let segment = reader.segment();
+    node < segment.len() && segment.node(node).class == class
+}
+
 /// Prints the structure that a reader has given last.
 fn print_last<O: Sink>(
     page: &mut Page,
     out: &mut O,
     reader: &ItemReader,
     told: Told,
+    is_read: bool,
 ) -> Result<(), ShelfError>
-    requires { reader.now.error ≡ None }
+    requires error { reader.now.error ≡ None }
+    requires read { IsTrue is_read → IfSome (layout_in reader.now.before.dictionary told.class)
+        (λ fields. HasBody reader.now.order fields reader.now.body) }
     ensures { Prints (O.output out.old) (O.output out.new) page.old page.new
         (last_text reader.now told.at told.class told.instance told.length) result }
 {
@@ -148,5 +182,6 @@ fn print_last<O: Sink>(
         reader.plans(),
         told,
         reader.body(),
+        is_read,
     )
 }

@@ -1,12 +1,13 @@
 //! The lines of entries and of other structures.
 
-ghost use Rattle.std.specs.Prelude.{◌≡◌, ◌++◌, ℕ, [], OnOk, codes};
+ghost use Rattle.std.specs.Prelude.{◌≡◌, ◌++◌, ℕ, [], IfSome, IsTrue, OnOk, codes};
 ghost use Rattle.std.specs.Fmt.{decimal};
+ghost use Rattle.layout_plan.specs.Body.{HasBody};
 ghost use Rattle.layout_plan.specs.Plans.{plan_of};
 ghost use Rattle.file_grammar.specs.Record.{layout_in};
 ghost use Rattle.dumper.specs.Lines.{heading, element_line, entry_line, entry_text, structure_line, structure_text};
 ghost use Rattle.dumper.specs.Lines.{end_line};
-ghost use Rattle.dumper.specs.Page.{Prints};
+ghost use Rattle.dumper.specs.Page.{pending, Prints};
 
 use crate::bodies::print_body;
 use crate::escapes::put_escaped;
@@ -96,15 +97,18 @@ pub fn print_structure<O: Sink>(
     plans: &Plans,
     told: Told,
     body: &[u8],
+    is_read: bool,
 ) -> Result<(), ShelfError>
     requires plans { (class : ℕ) → plan_of plans.now class ≡ layout_in dictionary.now class }
+    requires read { IsTrue is_read → IfSome (layout_in dictionary.now told.class)
+        (λ fields. HasBody order fields body.now) }
     ensures { Prints (O.output out.old) (O.output out.new) page.old page.new
         (structure_text order dictionary.now told.at told.class told.instance told.length body.now) result }
 {
     let Some(entry) = dictionary.get(told.class) else {
         return print_unheld(page, out, told);
     };
-    let composed = push_told(&mut page.text, entry.name.bytes(), told);
+    let composed = push_told(page, entry.name.bytes(), told);
     page.settle(out, composed)?;
     let elements = entry.elements.as_slice();
     print_body(
@@ -115,6 +119,7 @@ pub fn print_structure<O: Sink>(
         elements,
         plans.plan(told.class),
         body,
+        is_read,
     )
 }
 
@@ -123,27 +128,26 @@ fn print_unheld<O: Sink>(page: &mut Page, out: &mut O, told: Told) -> Result<(),
     ensures { Prints (O.output out.old) (O.output out.new) page.old page.new
         (structure_line [] told.at told.class told.instance told.length ++ codes "  unread\n") result }
 {
-    let composed = push_told(&mut page.text, &[], told);
+    let composed = push_told(page, &[], told);
     page.settle(out, composed)?;
     let composed = page.text.extend_from_slice(b"  unread\n");
     page.settle(out, composed)
 }
 
 /// Appends the first line of a structure.
-fn push_told(text: &mut Vec<u8>, name: &[u8], told: Told) -> Result<(), AllocError>
-    ensures { OnOk result (text.new.items ≡ text.old.items
+fn push_told(page: &mut Page, name: &[u8], told: Told) -> Result<(), AllocError>
+    ensures { OnOk result (pending page.new ≡ pending page.old
         ++ structure_line name.now told.at told.class told.instance told.length) }
 {
-    push_labelled(text, b"record at ", told.at)?;
-    text.extend_from_slice(b" ")?;
-    put_escaped(text, name)?;
-    push_labelled(text, b" class ", told.class as u64)?;
-    push_labelled(text, b" instance ", told.instance as u64)?;
-    push_labelled(text, b" length ", told.length)?;
-    text.extend_from_slice(b"\n")
+    push_labelled(&mut page.text, b"record at ", told.at)?;
+    page.headings.push(&mut page.text, told.class, name)?;
+    push_decimal(&mut page.text, told.instance as u64)?;
+    push_labelled(&mut page.text, b" length ", told.length)?;
+    page.text.extend_from_slice(b"\n")
 }
 
 /// Appends a number in decimal, after what it is.
+#[inline(always)]
 fn push_labelled(text: &mut Vec<u8>, label: &[u8], n: u64) -> Result<(), AllocError>
     ensures { OnOk result (text.new.items ≡ text.old.items ++ (label.now ++ decimal n)) }
 {

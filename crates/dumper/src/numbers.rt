@@ -18,6 +18,7 @@ use type_text::{Base, Link};
 pub const CHUNK: usize = 64;
 
 /// Appends a number of a field of this base, by its bits.
+#[inline(always)]
 pub fn push_number(text: &mut Vec<u8>, base: &Base, n: u64) -> Result<(), AllocError>
     requires fits { (width : SpecWidth) × (form_of base.now ≡ Number width) × (n < 256 ^ size_of width) }
     ensures { OnOk result (text.new.items ≡ text.old.items ++ number_text base.now n) }

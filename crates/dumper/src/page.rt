@@ -5,6 +5,7 @@ ghost use Rattle.frame_outside.specs.Sink.{Output};
 ghost use Rattle.dumper.specs.Page.{pending, Prints};
 
 use crate::beginnings::Beginnings;
+use crate::headings::Headings;
 use frame_outside::{ShelfError, Sink};
 use std::alloc::{AllocError, Global};
 
@@ -18,6 +19,8 @@ pub struct Page {
     pub text: Vec<u8>,
     /// What stands before the values of fields.
     pub beginnings: Beginnings,
+    /// What stands in first lines of structures.
+    pub headings: Headings,
     /// Room for the numbers that the fields of a body are.
     pub numbers: Vec<u64>,
 }
@@ -31,6 +34,7 @@ impl Page {
             alloc,
             text: Vec::new(alloc),
             beginnings: Beginnings::new(alloc),
+            headings: Headings::new(alloc),
             numbers: Vec::new(alloc),
         }
     }

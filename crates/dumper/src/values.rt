@@ -1,11 +1,13 @@
 //! Values printed from the bytes that spell them: no value is made of them.
 
-ghost use Rattle.std.specs.Prelude.{◌≡◌, ◌≤◌, ◌++◌, ◌↔◌, ℕ, List, length, IsTrue, IfOk, OnOk};
+ghost use Rattle.std.specs.Prelude.{◌≡◌, ◌≢◌, ◌<◌, ◌≤◌, ◌^◌, ◌++◌, ◌↔◌, ℕ, List, [], length, IsTrue, IfOk, OnOk};
 ghost use Rattle.scalar_types.specs.declared.Width.TheVariants.{One};
+ghost use Rattle.scalar_types.specs.declared.Width.{Width as SpecWidth};
+ghost use Rattle.scalar_types.specs.Number.{size_of};
 ghost use Rattle.record_values.specs.declared.values.Value.{Value};
 ghost use Rattle.layout_plan.specs.declared.fields.Form.TheVariants.{Number};
 ghost use Rattle.layout_plan.specs.Layout.{form_of};
-ghost use Rattle.layout_plan.specs.Body.{IsField, IsSingle};
+ghost use Rattle.layout_plan.specs.Body.{IsField, IsSingle, number_of};
 ghost use Rattle.dumper.specs.Printed.{value_text, list_text, bytes_text};
 ghost use Rattle.dumper.specs.Items.{BeginsItem, OfItem, AreSingles, next_text, text_between, first_link};
 ghost use Rattle.dumper.specs.Page.{Prints};
@@ -20,9 +22,9 @@ use scalar_types::{Order, Width, read_num};
 use std::alloc::AllocError;
 use type_text::{Base, Link};
 
-/// Prints the value of a field of this base, which the bytes spell. Failed where the sink fails, NoMemory where memory
-/// is out: a part of the text may have been put then.
-pub fn print_value<O: Sink>(
+/// Prints the value of a field that is a list of items of this base, which the bytes spell. Failed where the sink fails,
+/// NoMemory where memory is out: a part of the text may have been put then.
+pub fn print_listed<O: Sink>(
     page: &mut Page,
     out: &mut O,
     order: Order,
@@ -31,16 +33,13 @@ pub fn print_value<O: Sink>(
     bytes: &[u8],
 ) -> Result<(), ShelfError>
     requires form { field.now.form ≡ form_of base.now }
+    requires listed { field.now.counts ≢ [] }
     requires spelled { (numbers : List ℕ) × (v : Value)
         × IsField order numbers field.now.form field.now.counts v bytes.now }
     ensures { (numbers : List ℕ) (v : Value)
         → IsField order numbers field.now.form field.now.counts v bytes.now
         → Prints (O.output out.old) (O.output out.new) page.old page.new (value_text base.now v) result }
 {
-    if field.counts.is_empty() {
-        let composed = push_single(&mut page.text, order, base, field.form, bytes);
-        return page.settle(out, composed);
-    }
     if is_byte(field.form) {
         return print_bytes(page, out, bytes);
     }
@@ -54,19 +53,27 @@ fn is_byte(form: Form) -> bool
     matches!(form, Form::Number(Width::One))
 }
 
-/// Appends the value of a single item, which the bytes spell.
-fn push_single(
+/// Appends the value of a single item, which the bytes spell, and of which this is the number where it is one. Fails only
+/// where memory is out.
+#[inline(always)]
+pub fn push_single(
     text: &mut Vec<u8>,
     order: Order,
     base: &Base,
     form: Form,
     bytes: &[u8],
+    number: u64,
 ) -> Result<(), AllocError>
     requires form { form ≡ form_of base.now }
     requires spelled { (v : Value) × IsSingle order form v bytes.now }
+    requires number { (v : Value) → IsSingle order form v bytes.now → number ≡ number_of v }
+    requires fits { (width : SpecWidth) → form ≡ Number width → number < 256 ^ size_of width }
     ensures { OnOk result ((v : Value) → IsSingle order form v bytes.now
         → text.new.items ≡ text.old.items ++ value_text base.now v) }
 {
+    if let Form::Number(_) = form {
+        return push_number(text, base, number);
+    }
     push_item(text, order, base, form, bytes)?;
     Ok(())
 }

@@ -8,14 +8,14 @@ use Rattle.dumper.specs.Lines.{body_text}
 use Rattle.dumper.proofs.Pages.{settled, prints-is, pushed}
 use Rattle.dumper.proofs.BodyReadings.{text-read, text-unread, text-without, layout-read}
 use Rattle.dumper.proofs.bodies.print_body.Goals as goal
-use Rattle.dumper.proofs.bodies.print_body.Goals.{in_default-via-in-Some+else-is_ok, in_default-via-in_default}
+use Rattle.dumper.proofs.bodies.print_body.Goals.{in_default-via-in-Some+else-does_read, in_default-via-in_default}
 
 pub returns-in-Some : goal.returns-in-Some
 returns-in-Some g c =
     let fields = c.in-Some.plan.now in
-    let layout : layout_of c.args.elements.now ≡ Some fields = sym c.requires ∙ ap option_copied c.in-Some.is in
+    let layout : layout_of c.args.elements.now ≡ Some fields = sym c.requires.plan ∙ ap option_copied c.in-Some.is in
     let read = layout-read c.args.order c.args.elements.now fields c.args.body.now layout
-    (c.measure.ensures.ok.0 (sym c.is_ok.ensures.value ∙ c.if-is_ok.true)) in
+    (c.does_read.ensures.0 c.if-does_read.true) in
     prints-is _ _ _ _ _ _ _ (text-read c.args.order c.args.elements.now fields c.args.body.now read.0 layout read.1)
     (c.print_fields-printed.ensures read.0 read.1)
 
@@ -24,13 +24,13 @@ returns-in_default g c =
     let text : codes "  unread\n"
     ≡ body_text c.args.order c.args.elements.now (layout_of c.args.elements.now) c.args.body.now =
     elim c.in_default.branch [
-      | in_default-via-in-Some+else-is_ok w ↦
+      | in_default-via-in-Some+else-does_read w ↦
           text-unread c.args.order c.args.elements.now w.in-Some.plan.now c.args.body.now
-          (sym c.requires ∙ ap option_copied w.in-Some.is)
-          (λ has. both_ways w.is_ok.result w.if-is_ok.false (w.is_ok.ensures.value ∙ w.measure.ensures.ok.1 has))
+          (sym c.requires.plan ∙ ap option_copied w.in-Some.is)
+          (λ has. both_ways w.does_read.result w.if-does_read.false (w.does_read.ensures.1 has))
       | in_default-via-in_default w ↦
           text-without c.args.order c.args.elements.now c.args.body.now
-          (sym c.requires ∙ ap option_copied w.in_default.is)
+          (sym c.requires.plan ∙ ap option_copied w.in_default.is)
     ] in
     prints-is _ _ _ _ _ _ _ text
     (settled _ _ _ _ _ (codes "  unread\n") _ _

@@ -54,8 +54,8 @@ print_field-requires-clause-spelled g c =
     (field-here c.fields-fields.result.now (omega arith) c.index-fields-k.is) c.as_slice.ensures.value in
     span-spells c.field_length-length.result stands c.field_length-length.ensures
 
-pub number_in-requires : goal.number_in-requires
-number_in-requires g c =
+pub number_in-number-requires : goal.number_in-number-requires
+number_in-number-requires g c =
     let stands = stands-first c.loop-k.invariant
     (field-here c.fields-fields.result.now (omega arith) c.index-fields-k.is) c.as_slice.ensures.value in
     span-spells c.field_length-length.result stands c.field_length-length.ensures
@@ -95,11 +95,11 @@ returns-then-is_err g c = λ reading reads.
     let lt : c.loop-k.k < length fields = omega arith in
     let page = pending c.print_field.new.page in
     let more = shown-more e c.field_length-length.result (g.O.Sink.output c.print_field.new.out) page
-    c.print_field.result c.number_in.result _ _ c.as_slice.result.now c.loop-k.invariant
+    c.print_field.result c.number_in-number.result _ _ c.as_slice.result.now c.loop-k.invariant
     (element-here c.args.elements.now fields c.args.plan.now c.loop-k.k e c.requires.layout is lt c.index-elements-k.is)
     (field-here fields lt c.index-fields-k.is) c.as_slice.ensures.value c.field_length-length.ensures
     c.in_ok-print_field.was (λ v s. c.print_field.ensures c.as_slice.result.now v s)
-    (λ v s. c.number_in.ensures c.as_slice.result.now v s) refl refl in
+    (λ v s. c.number_in-number.ensures.number c.as_slice.result.now v s) refl refl in
     shown-refused {X = Unit {0}} page (Err NoMemory) more refl reading
     (ap (reading_by c.args.order c.args.body.now) is ∙ reads)
 
@@ -109,12 +109,12 @@ loop-k-preserved g c =
     let e = c.index-elements-k.result in
     let lt : c.loop-k.k < length fields = omega arith in
     shown-more e c.field_length-length.result (g.O.Sink.output c.print_field.new.out) (pending c.print_field.new.page)
-    c.print_field.result c.number_in.result c.push.new.self.items _ c.as_slice.result.now c.loop-k.invariant
+    c.print_field.result c.number_in-number.result c.push.new.self.items _ c.as_slice.result.now c.loop-k.invariant
     (element-here c.args.elements.now fields c.args.plan.now c.loop-k.k e c.requires.layout
     c.fields-fields.ensures.fields lt c.index-elements-k.is)
     (field-here fields lt c.index-fields-k.is) c.as_slice.ensures.value c.field_length-length.ensures
     c.in_ok-print_field.was (λ v s. c.print_field.ensures c.as_slice.result.now v s)
-    (λ v s. c.number_in.ensures c.as_slice.result.now v s)
+    (λ v s. c.number_in-number.ensures.number c.as_slice.result.now v s)
     (number-pushed c.push.new.self.items _ _ c.push.result (sym c.is_err.ensures.value ∙ c.if-is_err.false)
     c.push.ensures.items) (take_rest c.loop-k.rest.now c.field_length-length.result)
 
