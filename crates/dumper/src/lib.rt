@@ -1,9 +1,8 @@
 //! The text of a file's items, one after another: what `dump` prints.
 //!
-//! From the bottom: `escapes` and `numbers` compose the text of single values, `beginnings` and `headings` have what stands
-//! before them, `page` is text on its way to a sink,
-//! `spans` finds where a field ends, `values`, `bodies` and `lines` print what structures hold, `items` an item that a
-//! reader has given, and `files` a whole file.
+//! From the bottom: `escapes` and `numbers` compose the text of single values, `beginnings` and `headings` have what
+//! stands before them, `page` is text on its way to a sink, `spans` finds where a field ends, `values`, `bodies` and
+//! `lines` print what structures hold, `items` an item that a reader has given, and `files` a whole file.
 #![tactic(auto)]
 
 mod beginnings;

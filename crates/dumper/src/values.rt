@@ -22,8 +22,8 @@ use scalar_types::{Order, Width, read_num};
 use std::alloc::AllocError;
 use type_text::{Base, Link};
 
-/// Prints the value of a field that is a list of items of this base, which the bytes spell. Failed where the sink fails,
-/// NoMemory where memory is out: a part of the text may have been put then.
+/// Prints the value of a field that is a list of items of this base, which the bytes spell. Failed where the sink
+/// fails, NoMemory where memory is out: a part of the text may have been put then.
 pub fn print_listed<O: Sink>(
     page: &mut Page,
     out: &mut O,
@@ -53,8 +53,8 @@ fn is_byte(form: Form) -> bool
     matches!(form, Form::Number(Width::One))
 }
 
-/// Appends the value of a single item, which the bytes spell, and of which this is the number where it is one. Fails only
-/// where memory is out.
+/// Appends the value of a single item, which the bytes spell, and of which this is the number where it is one. Fails
+/// only where memory is out.
 #[inline(always)]
 pub fn push_single(
     text: &mut Vec<u8>,
